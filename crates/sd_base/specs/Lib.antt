@@ -1,0 +1,10 @@
+pub mod Padded
+pub mod Outcomes
+pub mod Disk
+pub mod Calls
+pub mod Answers
+pub mod Faults
+pub mod Stream
+pub mod Text
+pub mod Shape
+pub mod Supers

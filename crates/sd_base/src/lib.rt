@@ -1,0 +1,28 @@
+//! The ground that every crate of the store stands on: the words for devices of blocks, for input
+//! and output, and for the shape of a store, and the text of a super.
+//!
+//! It promises the one meaning of a device that all other contracts speak of (`Disk`), of a source
+//! and a sink of bytes (`Source`, `Sink`), and that a super is read exactly where it was written
+//! (`write_super`, `parse_super`). It stands on `byteorder` for numbers in bytes and on nothing else
+//! of the store.
+#![tactic(auto)]
+
+mod device;
+mod fault;
+mod names;
+mod page_op;
+mod shape;
+mod stream;
+mod supers;
+mod text;
+mod value;
+
+pub use device::{Block, BlockNo, Disk, NodeId, ReadAnswer, WriteAnswer};
+pub use fault::DevFault;
+pub use names::{Key, PageNo};
+pub use page_op::PageOp;
+pub use shape::Shape;
+pub use stream::{Put, Sink, Source, Took};
+pub use supers::{parse_super, write_super};
+pub use text::{put_bytes, put_u32, put_u64, u32_at, u64_at};
+pub use value::Value;
