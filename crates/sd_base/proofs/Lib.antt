@@ -1,2 +1,5 @@
 pub mod TextLaws
+pub mod PutLaws
+pub mod Rows
+pub mod PageLaws
 mod SuperFields

@@ -8,3 +8,4 @@ pub mod Stream
 pub mod Text
 pub mod Shape
 pub mod Supers
+pub mod Page
