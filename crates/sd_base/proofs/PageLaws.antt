@@ -2,8 +2,8 @@
 use Rattle.std.proofs.Common.{◌≡◌, ◌≤◌, ◌<◌, ◌+◌, ◌^◌, ℕ, List, [], ◌∷◌, ◌++◌, length, drop, refl, sym, ◌∙◌, ap, arith, codes}
 use Rattle.std.proofs.lemmas.List.{drop-drop, drop_all, append-nil}
 use Rattle.byteorder.specs.Endian.{big_bytes}
-use Rattle.sd_base.specs.Text.{put, zero_block, number_at, Field, bytes_field, number_field}
-use Rattle.sd_base.specs.Page.{page_text}
+use Rattle.sd_base.specs.Text.{put, zero_block, bytes_field, number_field}
+use Rattle.sd_base.specs.Page.{page_text, header_page, header_ident, with_header_ident}
 use Rattle.sd_base.proofs.TextLaws.{length-big_bytes, length-put, number_at-field, number_at-before}
 use Rattle.sd_base.proofs.PutLaws.{put-put, put-within, put_comm, put-behind, put_same, drop-put}
 
@@ -42,16 +42,16 @@ module _ (kind page : ℕ) where
   length-page_text ident body le = length-put 64 body (to_body ident) (omega (arith, length-to_body ident)) ∙ length-to_body ident
 
   -- the page number is read
-  pub number_at-page : (ident : ℕ) (body : List ℕ) → page < 2 ^ 32 → length body ≤ 4032 → number_at 4 12 (page_text kind page ident body) ≡ page
-  unfolding page_text
-  number_at-page ident body lt le =
+  pub header_page-page_text : (ident : ℕ) (body : List ℕ) → page < 2 ^ 32 → length body ≤ 4032 → header_page (page_text kind page ident body) ≡ page
+  unfolding page_text header_page
+  header_page-page_text ident body lt le =
       number_at-field 4 12 page 4096 to_page (number_field 16 8 ident ∷ bytes_field 64 body ∷ []) length-to_page (omega arith) (omega arith)
       ((omega arith, omega arith), ((omega arith, omega arith), tt))
 
   -- the identifier is read
-  pub number_at-ident : (ident : ℕ) (body : List ℕ) → ident < 2 ^ 64 → length body ≤ 4032 → number_at 8 16 (page_text kind page ident body) ≡ ident
-  unfolding page_text
-  number_at-ident ident body lt le =
+  pub header_ident-page_text : (ident : ℕ) (body : List ℕ) → ident < 2 ^ 64 → length body ≤ 4032 → header_ident (page_text kind page ident body) ≡ ident
+  unfolding page_text header_ident
+  header_ident-page_text ident body lt le =
       number_at-field 8 16 ident 4096 to_ident (bytes_field 64 body ∷ []) length-to_ident (omega arith) (omega arith)
       ((omega arith, omega arith), tt)
 
@@ -75,9 +75,9 @@ module _ (kind page : ℕ) where
       ap (λ n. put (64 + n) bytes (put 64 body (to_body ident))) e
       ∙ put-behind 64 body bytes (to_body ident) (omega (arith, length-to_body ident))
 
-  -- another identifier put in the place of the first
-  pub put-ident : (ident new : ℕ) (body : List ℕ) → length body ≤ 4032 → put 16 (big_bytes 8 new) (page_text kind page ident body) ≡ page_text kind page new body
-  unfolding page_text
-  put-ident ident new body le =
+  -- the page with another identifier
+  pub with_header_ident-page_text : (ident new : ℕ) (body : List ℕ) → length body ≤ 4032 → with_header_ident new (page_text kind page ident body) ≡ page_text kind page new body
+  unfolding page_text with_header_ident
+  with_header_ident-page_text ident new body le =
       sym (put_comm 16 64 (big_bytes 8 new) body (to_body ident) (omega (arith, length-big_bytes 8 new)) (omega (arith, length-to_body ident)))
       ∙ ap (put 64 body) (put-put 16 (big_bytes 8 ident) (big_bytes 8 new) to_ident (length-big_bytes 8 ident ∙ sym (length-big_bytes 8 new)) (omega (arith, length-to_ident, length-big_bytes 8 ident)))

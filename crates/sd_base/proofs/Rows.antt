@@ -23,9 +23,9 @@ module _ {X : Type 0} (f : X → List ℕ) (size : ℕ) where
   length-rows (x ∷ xs) h =
       length-append (f x) (flat_map f xs)
       ∙ (let here : length (f x) ≡ size = All-head IsRow x xs h in
-        let rest : length (flat_map f xs) ≡ size * length xs = length-rows xs (All-tail IsRow x xs h) in
-        let more : size * suc (length xs) ≡ size * length xs + size = mul-suc size (length xs) in
-        omega arith)
+      let rest : length (flat_map f xs) ≡ size * length xs = length-rows xs (All-tail IsRow x xs h) in
+      let more : size * suc (length xs) ≡ size * length xs + size = mul-suc size (length xs) in
+      omega arith)
 
   -- the first rows end where the next begins
   pub length-rows_before : (xs : List X) (i : ℕ) → i ≤ length xs → All IsRow xs → length (flat_map f (take i xs)) ≡ size * i

@@ -1,7 +1,5 @@
 ghost use Rattle.std.specs.Prelude.{◌≡◌, []};
-ghost use Rattle.byteorder.specs.Endian.{big_bytes};
-ghost use Rattle.sd_base.specs.Page.{page_text};
-ghost use Rattle.sd_base.specs.Text.{put, number_at};
+ghost use Rattle.sd_base.specs.Page.{page_text, header_page, header_ident, with_header_ident};
 
 use crate::device::Block;
 use crate::names::PageNo;
@@ -24,22 +22,25 @@ pub fn write_page_header(out: &mut Block, kind: u8, page: PageNo, ident: u64)
 }
 
 /// The page number in the header of a page, of any kind.
+#[tactic(auto, unfolding(crate::specs::Page::header_page))]
 pub fn page_number(block: &Block) -> PageNo
-    ensures { result.0 ≡ number_at 4 12 block.now }
+    ensures { result.0 ≡ header_page block.now }
 {
     PageNo(u32_at(block, 12))
 }
 
 /// The identifier in the header of a page, of any kind.
+#[tactic(auto, unfolding(crate::specs::Page::header_ident))]
 pub fn page_ident(block: &Block) -> u64
-    ensures { result ≡ number_at 8 16 block.now }
+    ensures { result ≡ header_ident block.now }
 {
     u64_at(block, 16)
 }
 
 /// Puts another identifier into the header of a page, of any kind.
+#[tactic(auto, unfolding(crate::specs::Page::with_header_ident))]
 pub fn put_page_ident(block: &mut Block, ident: u64)
-    ensures { block.new ≡ put 16 (big_bytes 8 ident) block.old }
+    ensures { block.new ≡ with_header_ident ident block.old }
 {
     put_u64(block, 16, ident);
 }
