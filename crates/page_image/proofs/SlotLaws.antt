@@ -1,5 +1,5 @@
 -- What is read of the text of a slot.
-use Rattle.std.proofs.Common.{◌≡◌, ◌≤◌, ◌<◌, ◌+◌, ◌-◌, ◌==◌, ℕ, zero, suc, Bool, true, false, cond, Option, Some, None, List, ◌∷◌, ◌++◌, length, take, drop, set, get_or, replicate, min, refl, sym, ◌∙◌, ap, arith, add-zero, ◌↔◌, IsNone, IfSome}
+use Rattle.std.proofs.Common.{◌≡◌, ◌≤◌, ◌<◌, ◌+◌, ◌-◌, ◌==◌, ℕ, Bool, true, false, cond, Option, Some, None, List, ◌∷◌, ◌++◌, length, take, drop, set, get_or, replicate, min, refl, sym, ◌∙◌, ap, arith, add-zero, ◌↔◌, IsNone, IfSome}
 use Rattle.std.proofs.lemmas.List.{append_assoc, drop-drop, drop-replicate, length-append, length-replicate, length-take, take_at, get_or-drop}
 use Rattle.sd_base.specs.Text.{put}
 use Rattle.page_image.specs.Slot.{slot_text, slot_of_text, FitsSlot}

@@ -4,7 +4,7 @@ use Rattle.std.proofs.lemmas.List.{drop-drop, drop_all, append-nil}
 use Rattle.byteorder.specs.Endian.{big_bytes}
 use Rattle.sd_base.specs.Text.{put, zero_block, bytes_field, number_field}
 use Rattle.sd_base.specs.Page.{page_text, header_page, header_ident, with_header_ident}
-use Rattle.sd_base.proofs.TextLaws.{length-big_bytes, length-put, number_at-field, number_at-before}
+use Rattle.sd_base.proofs.TextLaws.{length-big_bytes, length-put, number_at-field}
 use Rattle.sd_base.proofs.PutLaws.{put-put, put-within, put_comm, put-behind, put_same, drop-put}
 
 module _ (kind page : ℕ) where

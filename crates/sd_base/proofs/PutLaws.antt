@@ -33,11 +33,6 @@ put_same at bytes rest text e =
     ∙ ap (λ tail. take at text ++ tail) (sym e)
     ∙ take-append-drop at text
 
--- bytes put into the first of two texts
-pub put-append_left : (at : ℕ) (ys xs text : List ℕ) → at + length ys ≤ length xs → put at ys (xs ++ text) ≡ put at ys xs ++ text
-unfolding put
-put-append_left at ys xs text le = same_lists _ _ (search (rules, places)) (λ k d h. grind (arith, places))
-
 -- bytes put into the second of two texts
 pub put-append_right : (at n : ℕ) (ys xs text : List ℕ) → n ≡ length xs + at → at + length ys ≤ length text → put n ys (xs ++ text) ≡ xs ++ put at ys text
 unfolding put
@@ -47,8 +42,3 @@ put-append_right at n ys xs text e le = same_lists _ _ (search (rules, places)) 
 pub drop-put : (at : ℕ) (bytes text : List ℕ) → at + length bytes ≤ length text → drop at (put at bytes text) ≡ bytes ++ drop (at + length bytes) text
 unfolding put
 drop-put at bytes text le = same_lists _ _ (search (rules, places)) (λ k d h. grind (arith, places))
-
--- a text before the place at which bytes were put
-pub take-put : (n at : ℕ) (bytes text : List ℕ) → n ≤ at → at ≤ length text → take n (put at bytes text) ≡ take n text
-unfolding put
-take-put n at bytes text le le' = same_lists _ _ (search (rules, places)) (λ k d h. grind (arith, places))

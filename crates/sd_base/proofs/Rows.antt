@@ -1,12 +1,12 @@
 -- Rows of one size, joined end to end.
-use Rattle.std.proofs.Common.{◌≡◌, ◌≤◌, ◌<◌, ◌+◌, ◌*◌, ℕ, zero, suc, List, [], ◌∷◌, ◌++◌, length, take, drop, set, get_or, ◌∙◌, ap, sym, refl, arith, add-one}
+use Rattle.std.proofs.Common.{◌≡◌, ◌≤◌, ◌<◌, ◌+◌, ◌*◌, ℕ, zero, suc, List, [], ◌∷◌, ◌++◌, length, take, drop, set, get_or, ◌∙◌, ap, sym, arith, add-one}
 use Rattle.std.specs.List.{flat_map, All}
 use Rattle.std.proofs.lemmas.List.{length-append, length-take-le, drop_at}
 use Rattle.std.proofs.lemmas.List.Elements.{All-head, All-tail, All-take}
 use Rattle.std.proofs.Math.Nat.{mul-suc, mul-le-mul_left}
 use Rattle.std.proofs.Math.Seq.{drop-append-add}
 use Rattle.sd_base.specs.Text.{put}
-use Rattle.sd_base.proofs.PutLaws.{put-append_left, put-append_right}
+use Rattle.sd_base.proofs.PutLaws.{put-append_right}
 
 -- bytes put over as many others in front of a text
 put-front : (xs ys text : List ℕ) → length xs ≡ length ys → put 0 ys (xs ++ text) ≡ ys ++ text

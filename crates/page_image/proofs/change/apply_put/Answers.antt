@@ -1,9 +1,9 @@
-use Rattle.std.proofs.Common.{◌≡◌, ◌+◌, ◌*◌, ◌<◌, ◌^◌, ℕ, List, ◌∙◌, ap, sym, arith}
+use Rattle.std.proofs.Common.{◌≡◌, ◌+◌, ◌*◌, ◌<◌, ◌^◌, ℕ, List, ◌∙◌, ap, arith}
 use Rattle.sd_base.specs.Text.{put}
 use Rattle.sd_base.specs.Page.{header_ident, with_header_ident}
 use Rattle.page_image.specs.declared.page_view.PageView.{PageView}
 use Rattle.page_image.specs.Slot.{slot_text}
-use Rattle.page_image.specs.Image.{IsTextOf, image_text}
+use Rattle.page_image.specs.Image.{IsTextOf}
 use Rattle.page_image.proofs.ImageLaws.{ident-read, put-image_text, IsImage-with_put}
 use Rattle.page_image.proofs.change.apply_put.Goals as goal
 

@@ -1,5 +1,4 @@
 use Rattle.std.proofs.Common.{◌≡◌, ◌∙◌, Some, sym, ap, arith, rules}
-use Rattle.page_image.specs.declared.page_view.PageView.{PageView}
 use Rattle.page_image.specs.Image.{image_text}
 use Rattle.page_image.proofs.ImageLaws.{HasFields-fits, HasFields-same, IsTextOf-fields}
 use Rattle.page_image.proofs.image.parse.Goals as goal

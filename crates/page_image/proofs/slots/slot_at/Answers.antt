@@ -1,4 +1,4 @@
-use Rattle.std.proofs.Common.{◌≡◌, ◌≤◌, ◌+◌, ◌-◌, ◌*◌, ℕ, List, length, take, drop, Some, ◌∙◌, ap, sym, arith}
+use Rattle.std.proofs.Common.{◌≡◌, ◌≤◌, ◌+◌, ◌-◌, ℕ, List, length, take, drop, Some, ◌∙◌, ap, sym, arith}
 use Rattle.std.proofs.lemmas.List.{length-take}
 use Rattle.page_image.specs.Slot.{slot_of_text}
 use Rattle.page_image.proofs.SlotLaws.{value_from, slot_of_text-present}
