@@ -1,0 +1,35 @@
+-- A text is read byte by byte.
+use Rattle.std.proofs.Common.{◌≡◌, ◌≢◌, ◌<◌, ◌+◌, ℕ, zero, List, [], ◌∷◌, ◌++◌, ◌∙◌, length, get_or, sym, ap, subst, refl, inl, inr, arith, append_assoc}
+use Rattle.std.specs.List.{flat_map, All}
+use Rattle.std.proofs.lemmas.List.{length-append, get_or_append_left, get_or_at, flat_map_more, append-nil}
+use Rattle.std.proofs.lemmas.List.Elements.{All-push}
+use Rattle.std.proofs.lemmas.Bool.{cases_lt}
+use Rattle.shared_store.specs.Lines.{HasNoFeed, ended, Splits}
+
+-- one more byte that is no line feed
+HasNoFeed-push : (text : List ℕ) (b : ℕ) → HasNoFeed text → b ≢ 10 → HasNoFeed (text ++ b ∷ [])
+HasNoFeed-push text b none ne k lt e = elim (cases_lt k (length text)) [
+  | inl inside ↦ none k inside (sym (get_or_append_left text (b ∷ []) 0 k inside) ∙ e)
+  | inr past ↦
+      let last : k ≡ length text = omega (arith, length-append text (b ∷ [])) in
+      ne (sym (get_or_at text b [] 0 k (sym last)) ∙ e)
+]
+
+pub Splits-none : Splits [] [] []
+Splits-none = record { whole = refl; each = λ k d lt. absurd (omega arith); partial = λ k lt. absurd (omega arith) }
+
+-- a byte that is no line feed
+pub Splits-byte : (text : List ℕ) (lines : List (List ℕ)) (rest : List ℕ) (b : ℕ) → Splits text lines rest → b ≢ 10 → Splits (text ++ b ∷ []) lines (rest ++ b ∷ [])
+Splits-byte text lines rest b s ne = record {
+  whole = ap (λ xs. xs ++ b ∷ []) s.whole ∙ append_assoc (flat_map ended lines) rest (b ∷ []);
+  each = s.each;
+  partial = HasNoFeed-push rest b s.partial ne;
+}
+
+-- a line feed ends the line
+pub Splits-line : (text : List ℕ) (lines : List (List ℕ)) (rest : List ℕ) → Splits text lines rest → Splits (text ++ 10 ∷ []) (lines ++ rest ∷ []) []
+Splits-line text lines rest s = record {
+  whole = ap (λ xs. xs ++ 10 ∷ []) s.whole ∙ append_assoc (flat_map ended lines) rest (10 ∷ []) ∙ flat_map_more ended [] lines rest ∙ sym (append-nil _);
+  each = All-push HasNoFeed lines rest s.each s.partial;
+  partial = λ k lt. absurd (omega arith);
+}

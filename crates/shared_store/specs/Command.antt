@@ -1,0 +1,62 @@
+-- How lines spell commands.
+use Rattle.std.specs.Prelude.{◌≡◌, ◌≢◌, ◌≤◌, ℕ, List, ◌++◌, length, codes, decimal, All, slice_index, ◌<◌}
+use Rattle.shared_store.specs.declared.command.Command.{Command}
+use Rattle.shared_store.specs.declared.command.Command.TheVariants.{Bad, Format, Get, Put}
+
+-- a key of a record
+abbrev pub IsKey : ℕ → Type 0
+IsKey k = k ≤ 4031
+
+-- a byte that stands for itself in a value: printable, and no backslash
+abbrev pub IsPlain : ℕ → Type 0
+IsPlain b = (32 ≤ b) × (b ≤ 126) × (b ≢ 92)
+
+-- a value that a line can spell
+pub record IsValue (v : List ℕ) : Type 0 where
+  pub short : length v ≤ 248
+  pub plain : All IsPlain v
+
+-- the line spells the command: words with one space between, a key in decimal digits without a leading zero,
+-- and the value as the rest of the line
+abbrev pub Spells : List ℕ → Command → Type 0
+Spells line Format = line ≡ codes "format 1 8 1 8 0"
+Spells line (Get key) = IsKey key.0 × (line ≡ codes "get 1.0 " ++ decimal key.0)
+Spells line (Put key v) = IsKey key.0 × IsValue v × (line ≡ codes "put 1.0 " ++ (decimal key.0 ++ (codes " " ++ v)))
+Spells line Bad = ⊥
+
+-- the line means the command: it spells it, or spells none and is bad
+abbrev pub Means : List ℕ → Command → Type 0
+Means line Bad = (c : Command) → ¬ (Spells line c)
+Means line Format = Spells line Format
+Means line (Get key) = Spells line (Get key)
+Means line (Put key v) = Spells line (Put key v)
+
+-- what stands behind the words of a get and of a put
+abbrev pub MeansGet : List ℕ → Command → Type 0
+MeansGet rest Bad = (k : ℕ) → IsKey k → rest ≢ decimal k
+MeansGet rest Format = ⊥
+MeansGet rest (Get key) = IsKey key.0 × (rest ≡ decimal key.0)
+MeansGet rest (Put key v) = ⊥
+
+abbrev pub MeansPut : List ℕ → Command → Type 0
+MeansPut rest Bad = (k : ℕ) (v : List ℕ) → IsKey k → IsValue v → rest ≢ decimal k ++ (codes " " ++ v)
+MeansPut rest Format = ⊥
+MeansPut rest (Get key) = ⊥
+MeansPut rest (Put key v) = IsKey key.0 × IsValue v × (rest ≡ decimal key.0 ++ (codes " " ++ v))
+
+-- no byte of the text is a space
+abbrev pub HasNoSpace : List ℕ → Type 0
+HasNoSpace text = (k : ℕ) → k < length text → slice_index text k ≢ 32
+
+-- the first space of the text stands there
+pub record IsFirstSpace (text : List ℕ) (place : ℕ) : Type 0 where
+  pub within : place < length text
+  pub here : slice_index text place ≡ 32
+  pub before : (k : ℕ) → k < place → slice_index text k ≢ 32
+
+-- the key of a command is a key of the store
+abbrev pub HasKey : Command → Type 0
+HasKey Bad = Unit {0}
+HasKey Format = Unit {0}
+HasKey (Get key) = IsKey key.0
+HasKey (Put key v) = IsKey key.0

@@ -1,0 +1,14 @@
+pub mod Command
+pub mod Reply
+pub mod LineBuffer
+pub mod Output
+pub mod Device
+pub mod Records
+pub mod Tie
+pub mod Lines
+pub mod Transcript
+pub mod Serving
+pub mod Job
+pub mod ReadPage
+pub mod FaultReply
+pub mod Format

@@ -1,0 +1,104 @@
+ghost use Rattle.std.specs.Prelude.{◌≡◌, ◌≤◌, ◌↔◌, ℕ, decimal, IsTrue, IfSome, IfNone};
+ghost use Rattle.shared_store.specs.Command.{Means, HasKey, MeansGet, MeansPut, IsKey, IsPlain, IsValue, IsFirstSpace, HasNoSpace};
+
+use crate::numbers::read_number;
+use sd_base::{Key, Value};
+
+/// What a line asks for.
+#[derive(Clone, Copy, Debug, PartialEq, Eq)]
+pub enum Command {
+    /// The line is no command.
+    Bad,
+    /// `format 1 8 1 8 0`
+    Format,
+    /// `get 1.0 k`
+    Get(Key),
+    /// `put 1.0 k value`
+    Put(Key, Value),
+}
+
+/// The greatest key.
+const LAST_KEY: u32 = 4031;
+
+/// Reads a line without its line feed. `Bad` exactly where the line spells no command.
+pub fn read_line(line: &[u8]) -> Command
+    ensures means { Means line.now result }
+    ensures key { HasKey result }
+{
+    if line == b"format 1 8 1 8 0".as_slice() {
+        return Command::Format;
+    }
+    if let Some(rest) = line.strip_prefix(b"get 1.0 ") {
+        return read_get(rest);
+    }
+    if let Some(rest) = line.strip_prefix(b"put 1.0 ") {
+        return read_put(rest);
+    }
+    Command::Bad
+}
+
+/// Reads what stands behind `get 1.0 `.
+fn read_get(rest: &[u8]) -> Command
+    ensures { MeansGet rest.now result }
+{
+    match read_key(rest) {
+        Some(key) => Command::Get(key),
+        None => Command::Bad,
+    }
+}
+
+/// Reads what stands behind `put 1.0 `: the key goes up to the first space.
+fn read_put(rest: &[u8]) -> Command
+    ensures { MeansPut rest.now result }
+{
+    let Some(end) = first_space(rest) else {
+        return Command::Bad;
+    };
+    let Some(key) = read_key(&rest[..end]) else {
+        return Command::Bad;
+    };
+    let Some(value) = read_value(&rest[end + 1..]) else {
+        return Command::Bad;
+    };
+    Command::Put(key, value)
+}
+
+/// The place of the first space.
+fn first_space(text: &[u8]) -> Option<usize>
+    ensures found { IfSome result (IsFirstSpace text.now) }
+    ensures none { IfNone result (HasNoSpace text.now) }
+{
+    text.iter().position(|b| *b == b' ')
+}
+
+/// The key that these digits spell.
+fn read_key(digits: &[u8]) -> Option<Key>
+    ensures found { IfSome result (λ key. IsKey key.0 × (digits.now ≡ decimal key.0)) }
+    ensures only { (k : ℕ) → IsKey k → digits.now ≡ decimal k → result ≡ Some (record { 0 = k }) }
+{
+    let number = read_number(digits)?;
+    if number <= LAST_KEY {
+        Some(Key(number))
+    } else {
+        None
+    }
+}
+
+/// The value that these bytes spell.
+fn read_value(text: &[u8]) -> Option<Value>
+    ensures found { IfSome result (λ v. IsValue v × (v ≡ text.now)) }
+    ensures only { IsValue text.now → result ≡ Some text.now }
+{
+    if text.iter().all(|b| is_plain(*b)) {
+        Value::from_slice(text)
+    } else {
+        None
+    }
+}
+
+/// Whether a byte stands for itself in a value.
+fn is_plain(b: u8) -> bool
+    ensures { IsTrue result ↔ IsPlain b }
+{
+    (0x20..=0x7e).contains(&b) && b != b'\\'
+}

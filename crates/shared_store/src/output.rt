@@ -1,0 +1,34 @@
+ghost use Rattle.std.specs.Prelude.{◌≡◌, ◌≤◌, ◌++◌, ℕ, false, IsTrue, length, take, MatchBool};
+ghost use Rattle.sd_base.specs.Disk.{Rose};
+ghost use Rattle.shared_store.specs.Output.{IsPart};
+
+use sd_base::{Put, Sink};
+
+/// Writes all of the bytes, and passes them on. False where the sink failed; then a part of them,
+/// perhaps all, is taken.
+pub(crate) fn send<K: Sink>(sink: &mut K, bytes: &[u8]) -> bool
+    ensures faults { (K.state sink.old).faults ≤ (K.state sink.new).faults }
+    ensures cause { result ≡ false → Rose (K.state sink.old).faults (K.state sink.new).faults }
+    ensures all { IsTrue K.told → IsTrue result → (K.state sink.new).taken ≡ (K.state sink.old).taken ++ bytes.now }
+    ensures flushed { IsTrue K.told → IsTrue result → (K.state sink.new).flushed ≡ length (K.state sink.new).taken }
+    ensures part { IsTrue K.told → IsPart (K.state sink.old).taken bytes.now (K.state sink.new).taken }
+{
+    write_all(sink, bytes) && sink.flush()
+}
+
+/// Writes all of the bytes.
+fn write_all<K: Sink>(sink: &mut K, bytes: &[u8]) -> bool
+    ensures faults { (K.state sink.old).faults ≤ (K.state sink.new).faults }
+    ensures cause { result ≡ false → Rose (K.state sink.old).faults (K.state sink.new).faults }
+    ensures all { IsTrue K.told → IsTrue result → (K.state sink.new).taken ≡ (K.state sink.old).taken ++ bytes.now }
+    ensures part { IsTrue K.told → IsPart (K.state sink.old).taken bytes.now (K.state sink.new).taken }
+{
+    let mut sent = 0;
+    while sent < bytes.len() {
+        match sink.write(&bytes[sent..]) {
+            Put::Took(0) | Put::Failed => return false,
+            Put::Took(n) => sent += n,
+        }
+    }
+    true
+}
