@@ -53,18 +53,18 @@ laid_out-overwrite places contents capacity i place x laid lt e =
     let len : length new ≡ length old = length-laid_out places (set contents place x) ∙ sym (length-laid_out places contents) in
     let lt_old : i < length old = omega (arith, length-laid_out places contents) in
     ext_get_or zero_block new (set old i x) (len ∙ sym (length-set old i x)) (λ j less.
-      let lt_j : j < length places = omega (arith, length-laid_out places (set contents place x)) in
-      let read : get_or new j zero_block ≡ content_at (set contents place x) (get_or places j None) = laid_out-at places (set contents place x) j lt_j in
-      elim (cases_eq j i) [
-        | inl same ↦
-            let here : get_or places j None ≡ Some place = rw same e in
-            let wrote : get_or (set contents place x) place zero_block ≡ x = get_or-set_same contents place x zero_block (laid.within i place e) in
-            let want : get_or (set old i x) j zero_block ≡ x = rw same (get_or-set_same old i x zero_block lt_old) in
-            read ∙ ap (content_at (set contents place x)) here ∙ wrote ∙ sym want
-        | inr other ↦
-            let apart : get_or places j None ≢ Some place = λ there. other (laid.apart j i place there e) in
-            read ∙ content_at-set_other contents place x (get_or places j None) apart ∙ sym (laid_out-at places contents j lt_j) ∙ sym (get_or-set_other old i j x zero_block other)
-      ])
+    let lt_j : j < length places = omega (arith, length-laid_out places (set contents place x)) in
+    let read : get_or new j zero_block ≡ content_at (set contents place x) (get_or places j None) = laid_out-at places (set contents place x) j lt_j in
+    elim (cases_eq j i) [
+      | inl same ↦
+          let here : get_or places j None ≡ Some place = rw same e in
+          let wrote : get_or (set contents place x) place zero_block ≡ x = get_or-set_same contents place x zero_block (laid.within i place e) in
+          let want : get_or (set old i x) j zero_block ≡ x = rw same (get_or-set_same old i x zero_block lt_old) in
+          read ∙ ap (content_at (set contents place x)) here ∙ wrote ∙ sym want
+      | inr other ↦
+          let apart : get_or places j None ≢ Some place = λ there. other (laid.apart j i place there e) in
+          read ∙ content_at-set_other contents place x (get_or places j None) apart ∙ sym (laid_out-at places contents j lt_j) ∙ sym (get_or-set_other old i j x zero_block other)
+    ])
 
 -- what the blocks with a place hold stays where one more content comes
 content_at-push : (contents : List (List ℕ)) (x : List ℕ) (o : Option ℕ) → ((p : ℕ) → o ≡ Some p → p < length contents) → content_at (contents ++ x ∷ []) o ≡ content_at contents o
@@ -108,18 +108,18 @@ laid_out-push places contents capacity i x laid lt e =
     let len : length new ≡ length old = length-laid_out next (contents ++ x ∷ []) ∙ len_next ∙ sym (length-laid_out places contents) in
     let lt_old : i < length old = omega (arith, length-laid_out places contents) in
     ext_get_or zero_block new (set old i x) (len ∙ sym (length-set old i x)) (λ j less.
-      let lt_j : j < length places = omega (arith, length-laid_out next (contents ++ x ∷ []), len_next) in
-      let read : get_or new j zero_block ≡ content_at (contents ++ x ∷ []) (get_or next j None) = laid_out-at next (contents ++ x ∷ []) j (omega (arith, len_next, lt_j)) in
-      elim (cases_eq j i) [
-        | inl same ↦
-            let here : get_or next j None ≡ Some (length contents) = rw same (get_or-set_same places i (Some (length contents)) None lt) in
-            let wrote : get_or (contents ++ x ∷ []) (length contents) zero_block ≡ x = get_or_push contents x zero_block (length contents) refl in
-            let want : get_or (set old i x) j zero_block ≡ x = rw same (get_or-set_same old i x zero_block lt_old) in
-            read ∙ ap (content_at (contents ++ x ∷ [])) here ∙ wrote ∙ sym want
-        | inr other ↦
-            let there : get_or next j None ≡ get_or places j None = get_or-set_other places i j (Some (length contents)) None other in
-            read ∙ ap (content_at (contents ++ x ∷ [])) there ∙ content_at-push contents x (get_or places j None) (λ p f. laid.within j p f) ∙ sym (laid_out-at places contents j lt_j) ∙ sym (get_or-set_other old i j x zero_block other)
-      ])
+    let lt_j : j < length places = omega (arith, length-laid_out next (contents ++ x ∷ []), len_next) in
+    let read : get_or new j zero_block ≡ content_at (contents ++ x ∷ []) (get_or next j None) = laid_out-at next (contents ++ x ∷ []) j (omega (arith, len_next, lt_j)) in
+    elim (cases_eq j i) [
+      | inl same ↦
+          let here : get_or next j None ≡ Some (length contents) = rw same (get_or-set_same places i (Some (length contents)) None lt) in
+          let wrote : get_or (contents ++ x ∷ []) (length contents) zero_block ≡ x = get_or_push contents x zero_block (length contents) refl in
+          let want : get_or (set old i x) j zero_block ≡ x = rw same (get_or-set_same old i x zero_block lt_old) in
+          read ∙ ap (content_at (contents ++ x ∷ [])) here ∙ wrote ∙ sym want
+      | inr other ↦
+          let there : get_or next j None ≡ get_or places j None = get_or-set_other places i j (Some (length contents)) None other in
+          read ∙ ap (content_at (contents ++ x ∷ [])) there ∙ content_at-push contents x (get_or places j None) (λ p f. laid.within j p f) ∙ sym (laid_out-at places contents j lt_j) ∙ sym (get_or-set_other old i j x zero_block other)
+    ])
 
 -- blocks that have no place are zero
 pub laid_out-blank : (n : ℕ) (contents : List (List ℕ)) → laid_out (replicate n None) contents ≡ replicate n zero_block

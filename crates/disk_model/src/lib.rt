@@ -5,4 +5,10 @@
 //! alone.
 #![tactic(auto)]
 
+mod cell;
 mod lazy;
+mod memory;
+mod port;
+mod settle;
+
+pub use memory::MemDisk;
