@@ -12,3 +12,6 @@ mod port;
 mod settle;
 
 pub use memory::MemDisk;
+
+#[cfg(test)]
+mod tests;
