@@ -1,0 +1,5 @@
+pub mod Blankness
+pub mod BlockSteps
+pub mod CellSteps
+pub mod Laid
+pub mod Reaching

@@ -1,0 +1,86 @@
+-- What the blocks of a device in memory are, by their cells and their copies.
+use Rattle.std.specs.Prelude.{ℕ, ◌+◌, ◌*◌, Bool, true, false, List, [], ◌∷◌, Option, Some, None, slice_index_or, nat_lt}
+use Rattle.sd_base.specs.Disk.{BlockState}
+use Rattle.disk_model.specs.Lazy.{zero_block}
+use Rattle.disk_model.specs.declared.cell.Mark.{Mark}
+use Rattle.disk_model.specs.declared.cell.Mark.TheVariants.{Covered, Lost, Waiting}
+use Rattle.disk_model.specs.declared.cell.Cell.{Cell}
+use Rattle.disk_model.specs.declared.port.Port.{Port}
+
+-- the port that has written the block and has not covered it
+abbrev pub writer_of : Mark → Option ℕ
+writer_of Covered = None
+writer_of Lost = None
+writer_of (Waiting port was_lost bit) = Some port
+
+-- what the block holds, where this is its current copy
+abbrev pub current_of : Mark → List ℕ → Option (List ℕ)
+current_of Covered now = Some now
+current_of Lost now = None
+current_of (Waiting port was_lost bit) now = Some now
+
+-- a content that was there, or none where the block was lost
+abbrev pub kept_content : Bool → List ℕ → Option (List ℕ)
+kept_content true before = None
+kept_content false before = Some before
+
+-- what the block held before its first uncovered write, where these are its current and its other copy
+abbrev pub stood_of : Mark → List ℕ → List ℕ → Option (List ℕ)
+stood_of Covered now before = Some now
+stood_of Lost now before = None
+stood_of (Waiting port was_lost bit) now before = kept_content was_lost before
+
+-- what a stop may leave of the block
+abbrev pub outcomes_of : Mark → List ℕ → List ℕ → List (Option (List ℕ))
+outcomes_of Covered now before = Some now ∷ []
+outcomes_of Lost now before = None ∷ []
+outcomes_of (Waiting port was_lost bit) now before = Some now ∷ kept_content was_lost before ∷ []
+
+-- a block, by its mark, its current copy and its other copy
+abbrev pub block_of : Mark → List ℕ → List ℕ → BlockState
+block_of mark now before = record { current = current_of mark now; outcomes = outcomes_of mark now before; writer = writer_of mark }
+
+-- the current one of the two copies
+abbrev pub current_copy : Bool → List ℕ → List ℕ → List ℕ
+current_copy false one two = one
+current_copy true one two = two
+
+-- the one that is not current
+abbrev pub other_copy : Bool → List ℕ → List ℕ → List ℕ
+other_copy false one two = two
+other_copy true one two = one
+
+-- a block, by its cell and its two copies
+abbrev pub cell_state : Cell → List ℕ → List ℕ → BlockState
+cell_state cell one two = block_of cell.mark (current_copy cell.second one two) (other_copy cell.second one two)
+
+-- where a copy of block k stands
+abbrev pub place_of : ℕ → Bool → ℕ
+place_of k false = 2 * k
+place_of k true = 2 * k + 1
+
+abbrev pub cell_at : List Cell → ℕ → Cell
+cell_at cells k = slice_index_or cells k record { mark = Covered; second = false }
+
+abbrev pub copy_at : List (List ℕ) → ℕ → Bool → List ℕ
+copy_at copies k second = slice_index_or copies (place_of k second) zero_block
+
+-- block k
+abbrev pub block_at : List Cell → List (List ℕ) → ℕ → BlockState
+block_at cells copies k = cell_state (cell_at cells k) (copy_at copies k false) (copy_at copies k true)
+
+-- the port for which block k waits
+abbrev pub waiter_at : List Cell → ℕ → Option ℕ
+waiter_at cells k = writer_of (cell_at cells k).mark
+
+abbrev pub port_at : List Port → ℕ → Port
+port_at ports n = slice_index_or ports n record { live = false; first = 0; end = 0; next_bit = 0 }
+
+abbrev pub live_at : List Port → ℕ → Bool
+live_at ports n = (port_at ports n).live
+
+abbrev pub is_below : ℕ → ℕ → Bool
+is_below size k = nat_lt k size
+
+abbrev pub zero_count : ℕ → ℕ
+zero_count n = 0
