@@ -1,19 +1,18 @@
 -- Pages of an open store, read and written.
-use Rattle.std.proofs.Common.{◌≡◌, ◌≢◌, ◌+◌, ◌/◌, ◌%◌, ◌≤◌, ◌<◌, ◌∙◌, ℕ, Bool, true, false, List, Option, Some, None, not, cond, eqb, length, get_or, set, sym, ap, subst, refl, inl, inr, arith}
+use Rattle.std.proofs.Common.{◌≡◌, ◌≢◌, ◌+◌, ◌%◌, ◌≤◌, ◌<◌, ◌∙◌, ℕ, Bool, true, false, List, Option, Some, None, not, get_or, set, sym, ap, subst, inl, inr, arith}
 use Rattle.std.proofs.lemmas.List.{get_or-set_same, get_or-set_other}
 use Rattle.std.proofs.lemmas.Bool.{cases_eq}
 use Rattle.std.proofs.lemmas.Bool.Decides.{nat_tests}
-use Rattle.sd_base.specs.Disk.{BlockState, DiskState, MayHold}
+use Rattle.sd_base.specs.Disk.{BlockState, DiskState}
 use Rattle.sd_base.specs.Calls.{Narrows, NarrowsBut}
 use Rattle.sd_base.specs.declared.names.PageNo.{PageNo}
 use Rattle.sd_base.specs.declared.names.Key.{Key}
 use Rattle.sd_base.specs.declared.page_op.PageOp.TheVariants as change
-use Rattle.page_image.specs.declared.page_view.PageView.{PageView}
 use Rattle.page_image.specs.Image.{IsTextOf}
 use Rattle.page_image.specs.Change.{applied}
 use Rattle.shared_store.specs.Device.{WritesThrough}
 use Rattle.shared_store.specs.ReadPage.{IsDataPage}
-use Rattle.shared_store.specs.Records.{Seal, Sealed, StoreState, shut, opened, page_of, with_record, with_change, Answers, AnswersGet, AnswersPut, after}
+use Rattle.shared_store.specs.Records.{Sealed, StoreState, shut, opened, page_of, with_record, with_change, Answers, AnswersGet, AnswersPut, after}
 use Rattle.shared_store.specs.Tie.{Shows, ShowsSeal, HoldsPage, ShowsPage, ShowsOpen, HasCause, is_stop}
 use Rattle.shared_store.specs.declared.command.Command.TheVariants as asks
 use Rattle.shared_store.specs.declared.reply.Reply.{Reply}

@@ -1,19 +1,17 @@
 -- One byte more of a job.
 use Rattle.std.proofs.Common.{◌≡◌, ◌≢◌, ℕ, Bool, true, false, List, [], ◌∷◌, ◌++◌, ◌∙◌, take, sym, ap, subst, refl, append_assoc}
-use Rattle.std.specs.List.{flat_map}
 use Rattle.std.proofs.lemmas.List.{flat_map_more, append-nil}
 use Rattle.sd_base.specs.Disk.{BlockState, DiskState}
 use Rattle.sd_base.specs.Faults.{Grew}
 use Rattle.sd_base.specs.Stream.{SinkState}
 use Rattle.shared_store.specs.Command.{Means}
 use Rattle.shared_store.specs.Device.{IsQuiet}
-use Rattle.shared_store.specs.Lines.{Splits}
 use Rattle.shared_store.specs.LineBuffer.{HoldsLine}
 use Rattle.shared_store.specs.Output.{IsPart}
 use Rattle.shared_store.specs.Records.{Seal, StoreState, shut, opened, Answers, after, Run}
 use Rattle.shared_store.specs.Reply.{reply_text}
 use Rattle.shared_store.specs.Tie.{Shows, ShowsSeal, HasCause}
-use Rattle.shared_store.specs.Transcript.{Beginning, transcript_text, AreCounted, Leaves, Transcribes, TranscribesPart}
+use Rattle.shared_store.specs.Transcript.{Beginning, AreCounted, Leaves, Transcribes, TranscribesPart}
 use Rattle.shared_store.specs.Job.{beginning}
 use Rattle.shared_store.specs.Serving.{Served}
 use Rattle.shared_store.specs.declared.command.Command.{Command}
@@ -57,7 +55,6 @@ module _ (from : Beginning) (bytes : List ℕ) (line next : LineBuffer) (was_ope
     (grew : Grew old now)
     (cause : HasCause reply old now)
     (s : Served from bytes line was_open old before) where
-
   run : Run from.disk.size from.state (s.lines ++ s.rest ∷ []) (s.replies ++ reply ∷ []) (after s.end command reply)
   run = Run-more from.disk.size from.state s.lines s.replies s.end s.rest command reply s.run (means s.rest s.buffered)
       (let P : ℕ → Type 0 = λ n. Answers n s.end command reply in subst P s.size (answers s.end s.shows))

@@ -1,5 +1,5 @@
 -- How long the spelling of a command is.
-use Rattle.std.proofs.Common.{◌≡◌, ◌≤◌, ◌<◌, ◌+◌, ◌++◌, ◌∙◌, ℕ, List, length, codes, decimal, ap, arith}
+use Rattle.std.proofs.Common.{◌≤◌, ◌++◌, ℕ, List, length, codes, decimal, ap, arith}
 use Rattle.std.proofs.lemmas.List.{length-append}
 use Rattle.std.proofs.lemmas.Fmt.{length-decimal-le}
 use Rattle.shared_store.specs.Command.{Spells}

@@ -1,5 +1,5 @@
 -- What the calls of a device's port 1 leave.
-use Rattle.std.specs.Prelude.{◌≡◌, ◌≢◌, ℕ, List, Option, Some, None, Result, Ok, Err}
+use Rattle.std.specs.Prelude.{◌≡◌, ◌≢◌, ℕ, List, Some, None, Result, Ok, Err}
 use Rattle.sd_base.specs.Disk.{BlockState, Holds, IsFreeFor}
 use Rattle.sd_base.specs.declared.fault.DevFault.{DevFault}
 use Rattle.sd_base.specs.declared.fault.DevFault.TheVariants.{Stopped, Failed, Lost, Damaged}

@@ -1,5 +1,5 @@
 -- How a device is formatted.
-use Rattle.std.specs.Prelude.{◌≡◌, ◌⊎◌, ◌≤◌, ◌<◌, ℕ, Bool, true, false, List, Option}
+use Rattle.std.specs.Prelude.{◌≤◌, ◌<◌, ℕ, Bool, true, false, List, Option}
 use Rattle.sd_base.specs.Disk.{BlockState}
 use Rattle.shared_store.specs.Records.{no_records, no_changes}
 use Rattle.shared_store.specs.Tie.{IsSuper, ShowsPage}

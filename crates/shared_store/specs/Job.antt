@@ -1,11 +1,19 @@
 -- What a whole run of the program tells.
 use Rattle.std.specs.Prelude.{◌≡◌, ◌≢◌, ◌+◌, ◌≤◌, ◌^◌, ◌↔◌, ℕ, List, ◌++◌}
-use Rattle.sd_base.specs.Disk.{DiskState, Rose}
+use Rattle.sd_base.specs.Disk.{DiskState}
 use Rattle.sd_base.specs.Stream.{SourceState, SinkState}
 use Rattle.shared_store.specs.Records.{Seal, shut}
 use Rattle.shared_store.specs.Transcript.{Beginning, Transcribes, TranscribesPart}
 use Rattle.shared_store.specs.declared.script.Status.{Status}
 use Rattle.shared_store.specs.declared.script.Status.TheVariants as ended
+
+-- the number that the program ends with
+abbrev pub status_number : Status → ℕ
+status_number ended.Done = 0
+status_number ended.Usage = 2
+status_number ended.ReadFault = 3
+status_number ended.WriteFault = 4
+status_number ended.TooLong = 6
 
 -- a job begins with no store open
 abbrev pub beginning : Seal → DiskState → SinkState → Beginning

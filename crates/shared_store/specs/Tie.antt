@@ -1,5 +1,5 @@
 -- How a device shows a state of the store.
-use Rattle.std.specs.Prelude.{◌≡◌, ◌≢◌, ◌+◌, ◌%◌, ◌≤◌, ◌<◌, ℕ, Bool, true, false, List, Option, Some, None, slice_index_or}
+use Rattle.std.specs.Prelude.{◌≡◌, ◌+◌, ◌%◌, ◌≤◌, ◌<◌, ℕ, Bool, true, false, List, Option, Some, None, slice_index_or}
 use Rattle.sd_base.specs.Disk.{BlockState, DiskState, MayHold, Rose}
 use Rattle.sd_base.specs.Shape.{IsShape}
 use Rattle.sd_base.specs.Supers.{super_text}

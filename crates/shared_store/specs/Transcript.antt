@@ -1,9 +1,8 @@
 -- What a run of the store prints, and what it leaves on the device.
-use Rattle.std.specs.Prelude.{◌≡◌, ◌⊎◌, ◌+◌, ◌-◌, ◌≤◌, ◌^◌, ℕ, Bool, true, false, List, [], ◌∷◌, ◌++◌, length, take, min, count_by}
+use Rattle.std.specs.Prelude.{◌≡◌, ◌+◌, ◌-◌, ◌≤◌, ◌^◌, ℕ, Bool, true, false, List, [], ◌∷◌, ◌++◌, take, min, count_by}
 use Rattle.std.specs.List.{flat_map}
 use Rattle.sd_base.specs.Disk.{BlockState, DiskState}
-use Rattle.sd_base.specs.Stream.{SinkState}
-use Rattle.shared_store.specs.Lines.{Splits, ended, HasNoFeed}
+use Rattle.shared_store.specs.Lines.{Splits, ended}
 use Rattle.shared_store.specs.Records.{StoreState, shut, opened, Run}
 use Rattle.shared_store.specs.Reply.{reply_text}
 use Rattle.shared_store.specs.Device.{IsQuiet}

@@ -10,7 +10,6 @@ mod numbers;
 mod output;
 mod record;
 mod reply;
-
 mod script;
 mod session;
 mod store;

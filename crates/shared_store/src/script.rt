@@ -4,7 +4,7 @@ ghost use Rattle.sd_base.specs.Stream.{GivesCount, GivesBytes};
 ghost use Rattle.shared_store.specs.Records.{Seal};
 ghost use Rattle.shared_store.specs.Output.{StaysFlushed};
 ghost use Rattle.shared_store.specs.Tie.{ShowsSeal};
-ghost use Rattle.shared_store.specs.Job.{beginning, TellsJob, IsBounded};
+ghost use Rattle.shared_store.specs.Job.{beginning, TellsJob, IsBounded, status_number};
 
 use crate::line::LineBuffer;
 use crate::session::Session;
@@ -25,6 +25,21 @@ pub enum Status {
     WriteFault,
     /// The script is too long: 2^40 bytes were read.
     TooLong,
+}
+
+impl Status {
+    /// The number that the program ends with.
+    pub fn number(&self) -> u8
+        ensures { result ≡ status_number self.now }
+    {
+        match self {
+            Status::Done => 0,
+            Status::Usage => 2,
+            Status::ReadFault => 3,
+            Status::WriteFault => 4,
+            Status::TooLong => 6,
+        }
+    }
 }
 
 /// How many bytes of a script are read at most.

@@ -1,4 +1,4 @@
-use Rattle.std.proofs.Common.{◌≡◌, ◌∙◌, ◌+◌, ℕ, List, decimal, Some, sym, ap, subst, rules, arith}
+use Rattle.std.proofs.Common.{◌∙◌, ◌+◌, decimal, sym, subst, arith}
 use Rattle.std.proofs.lemmas.List.{take_rest}
 use Rattle.shared_store.specs.Command.{IsValue}
 use Rattle.shared_store.proofs.Splitting.{decimal_without_space, some_space, before_first_space, behind_first_space}

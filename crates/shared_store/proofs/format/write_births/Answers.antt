@@ -1,4 +1,3 @@
-use Rattle.std.proofs.Common.{arith}
 use Rattle.sd_base.specs.Calls.{Keeps-then}
 use Rattle.shared_store.proofs.Formatting.{born_more}
 use Rattle.shared_store.proofs.format.write_births.Goals as goal

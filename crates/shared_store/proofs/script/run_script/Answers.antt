@@ -1,4 +1,4 @@
-use Rattle.std.proofs.Common.{◌≡◌, ◌≤◌, ◌+◌, ◌-◌, ◌++◌, ◌∙◌, ℕ, List, [], take, ap, sym, refl, inl, inr, rules, arith, append_assoc}
+use Rattle.std.proofs.Common.{◌++◌, ◌∙◌, [], take, ap, sym, refl, inl, arith, append_assoc}
 use Rattle.shared_store.specs.Output.{StaysFlushed-then}
 use Rattle.shared_store.proofs.Serving.{served_none}
 use Rattle.shared_store.proofs.script.run_script.Goals as goal
@@ -29,10 +29,11 @@ loop-given-preserved g c =
       most = omega (arith, count.0);
       flushed = λ told. StaysFlushed-then _ (g.K.Sink.state c.loop-given.sink) _ (c.loop-given.invariant.flushed told) (c.feed.ensures.flushed c.if-not-feed.false told);
       served = λ tellS tellK tellD seal shows.
-          let before = c.loop-given.invariant.served tellS tellK tellD seal shows in
-          (before.0 ++ take c.in-Got.n c.read_piece.new.piece,
-          before.1 ∙ ap (λ xs. before.0 ++ xs) (c.in-Got.ensures.bytes tellS).0 ∙ sym (append_assoc before.0 (take c.in-Got.n c.read_piece.new.piece) (g.S.Source.state c.read_piece.new.source).left),
-          c.feed.ensures.served c.if-not-feed.false tellK tellD _ before.0 before.2);
+          let before = c.loop-given.invariant.served tellS tellK tellD seal shows in (
+            before.0 ++ take c.in-Got.n c.read_piece.new.piece,
+            before.1 ∙ ap (λ xs. before.0 ++ xs) (c.in-Got.ensures.bytes tellS).0 ∙ sym (append_assoc before.0 (take c.in-Got.n c.read_piece.new.piece) (g.S.Source.state c.read_piece.new.source).left),
+            c.feed.ensures.served c.if-not-feed.false tellK tellD _ before.0 before.2,
+          );
     }
 
 pub returns-then-not-feed-clause-transcript : goal.returns-then-not-feed-clause-transcript

@@ -3,7 +3,6 @@ use Rattle.shared_store.specs.Device.{IsQuiet}
 use Rattle.shared_store.specs.Output.{StaysFlushed}
 use Rattle.shared_store.specs.Records.{Seal}
 use Rattle.shared_store.specs.Tie.{CanServe, ShowsSeal}
-use Rattle.shared_store.specs.Transcript.{Beginning}
 use Rattle.shared_store.specs.Job.{beginning}
 use Rattle.shared_store.specs.Serving.{Served}
 use Rattle.shared_store.proofs.script.run_script.Given as goal

@@ -1,5 +1,3 @@
-use Rattle.std.proofs.Common.{◌≡◌, ◌≤◌, ℕ, List, length, true, false, sym, ◌∙◌, inl, inr}
-use Rattle.std.proofs.lemmas.Bool.{false≢true}
 use Rattle.shared_store.proofs.Spelling.{spelling_is_short}
 use Rattle.shared_store.proofs.line.LineBuffer.command.Goals as goal
 

@@ -1,4 +1,4 @@
-use Rattle.std.proofs.Common.{◌≡◌, ◌∙◌, ◌++◌, take, ap}
+use Rattle.std.proofs.Common.{◌∙◌, ◌++◌, take, ap}
 use Rattle.shared_store.proofs.Serving.{served_line, served_part}
 use Rattle.shared_store.proofs.session.Session.end_line.Goals as goal
 

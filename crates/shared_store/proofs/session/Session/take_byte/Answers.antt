@@ -1,5 +1,3 @@
-use Rattle.std.proofs.Common.{◌≡◌, ◌∷◌, [], ◌++◌, ℕ, List, ap, sym, subst}
-use Rattle.sd_base.specs.Disk.{DiskState}
 use Rattle.shared_store.proofs.Serving.{served_byte}
 use Rattle.shared_store.proofs.session.Session.take_byte.Goals as goal
 

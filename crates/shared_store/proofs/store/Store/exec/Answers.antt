@@ -1,4 +1,4 @@
-use Rattle.std.proofs.Common.{◌≡◌, sym, subst}
+use Rattle.std.proofs.Common.{sym, subst}
 use Rattle.shared_store.specs.Records.{Answers}
 use Rattle.shared_store.specs.declared.command.Command.{Command}
 use Rattle.shared_store.proofs.Paging.{answers_get, answers_put}
