@@ -25,8 +25,11 @@ const VAULT_BLOCKS: u32 = 16384;
 const NO_MEMORY: u8 = 5;
 
 fn main(rt: HostRuntime) -> ExitCode {
-    let Ok(words) = words(&rt) else {
-        return no_memory(&rt);
+    let words = match words(&rt) {
+        Ok(words) => words,
+        Err(error) if error.kind() == io::ErrorKind::OutOfMemory => return no_memory(&rt),
+        // A word that is no text is no word of the program.
+        Err(_) => return end(&rt, Status::Usage),
     };
     let Ok((mut disk, mut vault)) = devices(rt.alloc()) else {
         return no_memory(&rt);
@@ -41,6 +44,11 @@ fn main(rt: HostRuntime) -> ExitCode {
         &mut disk,
         &mut vault,
     );
+    end(&rt, status)
+}
+
+/// Ends with a status, and its line on standard error.
+fn end(rt: &impl Eprint, status: Status) -> ExitCode {
     if let Some(line) = message(status) {
         let _ = rt.eprintln(line);
     }

@@ -1,0 +1,30 @@
+-- What a device of trials means, but for its blocks, of which it tells nothing.
+use Rattle.std.specs.Prelude.{ℕ, Bool, false, List, [], None, nat_lt, slice_index, slice_index_or}
+use Rattle.sd_base.specs.Disk.{BlockState, DiskState}
+
+-- a block of which nothing is told
+abbrev pub untold_block : ℕ → BlockState
+untold_block k = record { current = None; outcomes = []; writer = None }
+
+abbrev pub is_below : ℕ → ℕ → Bool
+is_below size k = nat_lt k size
+
+abbrev pub live_at : List Bool → ℕ → Bool
+live_at live n = slice_index_or live n false
+
+abbrev pub counts_at : List ℕ → ℕ → ℕ
+counts_at counts n = slice_index counts n
+
+-- a device of this size, with these live ports, failures, stops and orders
+abbrev pub faulty_state : ℕ → List Bool → List ℕ → List ℕ → ℕ → DiskState
+faulty_state size live faults cuts orders = record {
+  name = 0;
+  size = size;
+  reach = is_below size;
+  below = [];
+  block = untold_block;
+  live = live_at live;
+  faults = counts_at faults;
+  cuts = counts_at cuts;
+  orders = orders;
+}

@@ -1,0 +1,14 @@
+//! Scripts tried out over sources, sinks and devices in memory that fail where they are told to.
+//!
+//! Its types meet the traits that the store stands on, so what is proved of the store holds over them;
+//! its tests show what no contract says. Nothing stands on this crate.
+#![tactic(auto)]
+
+mod device;
+mod streams;
+
+pub use device::{Faults, FaultyDisk};
+pub use streams::{Script, Transcript};
+
+
+
