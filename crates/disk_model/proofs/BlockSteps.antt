@@ -10,12 +10,15 @@ use Rattle.disk_model.specs.declared.cell.Cell.{Cell}
 use Rattle.disk_model.specs.declared.cell.Mark.TheVariants.{Lost}
 use Rattle.disk_model.proofs.Laid.{read_at}
 
+-- the cell that was written
 pub cell_at-set_same : (cells : List Cell) (k : ℕ) (cell : Cell) → k < length cells → cell_at (set cells k cell) k ≡ cell
 cell_at-set_same cells k cell lt = get_or-set_same cells k cell _ lt
 
+-- another cell than the one that was written
 pub cell_at-set_other : (cells : List Cell) (k j : ℕ) (cell : Cell) → j ≢ k → cell_at (set cells k cell) j ≡ cell_at cells j
 cell_at-set_other cells k j cell ne = get_or-set_other cells k j cell _ ne
 
+-- another block than the one whose cell was written
 pub view_at-set_other : (cells : List Cell) (copies : List (List ℕ)) (k j : ℕ) (cell : Cell) → j ≢ k → view_at (set cells k cell) copies j ≡ view_at cells copies j
 view_at-set_other cells copies k j cell ne =
     ap (λ (c : Cell). cell_view c (copy_at copies j false) (copy_at copies j true)) (cell_at-set_other cells k j cell ne)
@@ -34,19 +37,10 @@ copy_one-set : (copies : List (List ℕ)) (k : ℕ) (second : Bool) (content : L
 copy_one-set copies k false content lt = get_or-set_same copies (2 * k) content _ (omega arith)
 copy_one-set copies k true content lt = get_or-set_other copies (2 * k + 1) (2 * k) content _ (omega arith)
 
+-- the same of the second copy
 copy_two-set : (copies : List (List ℕ)) (k : ℕ) (second : Bool) (content : List ℕ) → 2 * k + 1 < length copies → copy_at (set copies (place_of k second) content) k true ≡ two_after second content (copy_at copies k true)
 copy_two-set copies k false content lt = get_or-set_other copies (2 * k) (2 * k + 1) content _ (omega arith)
 copy_two-set copies k true content lt = get_or-set_same copies (2 * k + 1) content _ lt
-
--- two blocks have no copy in common
-place_of-apart : (j k : ℕ) (a b : Bool) → j ≢ k → place_of j a ≢ place_of k b
-place_of-apart j k false false ne = omega arith
-place_of-apart j k false true ne = omega arith
-place_of-apart j k true false ne = omega arith
-place_of-apart j k true true ne = omega arith
-
-copy_at-set_other : (copies : List (List ℕ)) (k j : ℕ) (second side : Bool) (content : List ℕ) → j ≢ k → copy_at (set copies (place_of k second) content) j side ≡ copy_at copies j side
-copy_at-set_other copies k j second side content ne = get_or-set_other copies (place_of k second) (place_of j side) content _ (place_of-apart j k side second ne)
 
 -- a copy of each block is within the copies
 pub place_of-within : (k : ℕ) (second : Bool) (count : ℕ) → k < count → place_of k second < 2 * count
@@ -64,13 +58,6 @@ writes_at R cells copies k old new content lt len e h =
     let from : view_at cells copies k ≡ cell_view old (copy_at copies k false) (copy_at copies k true) = cc in
     let Q : BlockView → Type 0 = λ b. R b (view_at (set cells k new) (set copies (place_of k new.second) content) k) in
     subst Q (sym from) (subst (R (cell_view old (copy_at copies k false) (copy_at copies k true))) (sym state) (h _ _))
-
-pub view_at-write_other : (cells : List Cell) (copies : List (List ℕ)) (k j : ℕ) (second : Bool) (cell : Cell) (content : List ℕ) → j ≢ k → view_at (set cells k cell) (set copies (place_of k second) content) j ≡ view_at cells copies j
-view_at-write_other cells copies k j second cell content ne =
-    let c : cell_at (set cells k cell) j ≡ cell_at cells j = cell_at-set_other cells k j cell ne in
-    let one : copy_at (set copies (place_of k second) content) j false ≡ copy_at copies j false = copy_at-set_other copies k j second false content ne in
-    let two : copy_at (set copies (place_of k second) content) j true ≡ copy_at copies j true = copy_at-set_other copies k j second true content ne in
-    cc
 
 -- one more block is done
 pub DoneBelow-more : (R : BlockView → BlockView → Type 0) (n : ℕ) (old now new : ℕ → BlockView) → DoneBelow R n old now → R (now n) (new n) → ((k : ℕ) → k ≢ n → new k ≡ now k) → DoneBelow R (n + 1) old new

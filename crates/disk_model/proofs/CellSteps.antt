@@ -21,6 +21,7 @@ SettlesBlock-same port b ne = record {
   foreign = λ _. refl;
 }
 
+-- the same of a stop
 pub StopsBlock-same : (picks port : ℕ) (b : BlockView) → b.state.writer ≢ Some port → StopsBlock port picks b b
 StopsBlock-same picks port b ne = record {
   settles = SettlesBlock-same port b ne;
@@ -28,6 +29,7 @@ StopsBlock-same picks port b ne = record {
   back = λ e. absurd (ne e);
 }
 
+-- the same of a barrier
 pub CoversBlock-same : (port : ℕ) (b : BlockView) → b.state.writer ≢ Some port → CoversBlock port b b
 CoversBlock-same port b ne = record { current = refl; settles = SettlesBlock-same port b ne }
 
@@ -92,14 +94,17 @@ pub stops_now_at : (m : Mark) (second : Bool) (writer port picks bit : ℕ) (was
 stops_now_at m second writer port picks bit was_lost one two e f set =
     rw (e, f) (stops_now port picks bit was_lost (current_copy second one two) (other_copy second one two) ((bit_set_by_shift picks (bit % 64)).0 set))
 
+-- where the bit is 0, of a block that was lost
 pub stops_lost_at : (m : Mark) (second : Bool) (writer port picks bit : ℕ) (was_lost : Bool) (one two : List ℕ) → m ≡ Waiting writer was_lost bit → writer ≡ port → ¬ (bit_and (picks / 2 ^ (bit % 64)) 1 ≡ 1) → was_lost ≡ true → StopsBlock port picks (cell_view record { mark = m; second = second } one two) (cell_view record { mark = Lost; second = second } one two)
 stops_lost_at m second writer port picks bit was_lost one two e f unset g =
     rw (e, f, g) (stops_lost port picks bit (current_copy second one two) (other_copy second one two) (λ set. unset ((bit_set_by_shift picks (bit % 64)).1 set)))
 
+-- where the bit is 0, of a block that had a content
 pub stops_back_at : (m : Mark) (second : Bool) (writer port picks bit : ℕ) (was_lost : Bool) (one two : List ℕ) → m ≡ Waiting writer was_lost bit → writer ≡ port → ¬ (bit_and (picks / 2 ^ (bit % 64)) 1 ≡ 1) → was_lost ≡ false → StopsBlock port picks (cell_view record { mark = m; second = second } one two) (cell_view record { mark = Covered; second = not second } one two)
 stops_back_at m second writer port picks bit was_lost one two e f unset g =
     rw (e, f, g) (stops_back second port picks bit one two (λ set. unset ((bit_set_by_shift picks (bit % 64)).1 set)))
 
+-- a barrier takes the current content
 pub covers_at : (m : Mark) (second : Bool) (writer port bit : ℕ) (was_lost : Bool) (one two : List ℕ) → m ≡ Waiting writer was_lost bit → writer ≡ port → CoversBlock port (cell_view record { mark = m; second = second } one two) (cell_view record { mark = Covered; second = second } one two)
 covers_at m second writer port bit was_lost one two e f = rw (e, f) record { current = refl; settles = settles_now port bit was_lost _ _ }
 
@@ -146,6 +151,7 @@ writes_other : (second : Bool) (port bit : ℕ) (content one two : List ℕ) →
 writes_other false port bit content one two = writes_covered port bit one two content
 writes_other true port bit content one two = writes_covered port bit two one content
 
+-- the same of a lost block
 writes_other_lost : (second : Bool) (port bit : ℕ) (content one two : List ℕ) → WritesBlock port content (bit % 64) true (cell_view record { mark = Lost; second = second } one two) (cell_view record { mark = Waiting port true bit; second = not second } (one_after (not second) content one) (two_after (not second) content two))
 writes_other_lost false port bit content one two = writes_lost port bit one two content
 writes_other_lost true port bit content one two = writes_lost port bit two one content
@@ -159,9 +165,11 @@ writes_current_at m second writer port given bit was_lost content one two e free
     ] in
     rw (e, mine) (writes_current second port given bit was_lost content one two)
 
+-- the first write, of a covered block
 pub writes_covered_at : (m : Mark) (second : Bool) (port bit : ℕ) (was_lost : Bool) (content one two : List ℕ) → m ≡ Covered → was_lost ≡ false → WritesBlock port content (bit % 64) true (cell_view record { mark = m; second = second } one two) (cell_view record { mark = Waiting port was_lost bit; second = not second } (one_after (not second) content one) (two_after (not second) content two))
 writes_covered_at m second port bit was_lost content one two e f = rw (e, f) (writes_other second port bit content one two)
 
+-- the first write, of a lost block
 pub writes_lost_at : (m : Mark) (second : Bool) (port bit : ℕ) (was_lost : Bool) (content one two : List ℕ) → m ≡ Lost → was_lost ≡ true → WritesBlock port content (bit % 64) true (cell_view record { mark = m; second = second } one two) (cell_view record { mark = Waiting port was_lost bit; second = not second } (one_after (not second) content one) (two_after (not second) content two))
 writes_lost_at m second port bit was_lost content one two e f = rw (e, f) (writes_other_lost second port bit content one two)
 
@@ -172,6 +180,7 @@ covers_holds port m now before new covers free o h = elim free [
   | inr none ↦ covered_one m now before none o (covers.settles.outcomes o h)
 ]
 
+-- a covered block has no writer, where no other port had written it
 pub covers_writer : (port : ℕ) (old new : BlockView) → CoversBlock port old new → IsFreeFor port old.state → new.state.writer ≡ None
 covers_writer port old new covers free = elim free [
   | inl mine ↦ covers.settles.writer mine
@@ -198,6 +207,7 @@ settles_waits port old new n settles waits = elim (writer_cases old.state.writer
       (was, λ e. other (was ∙ ap Some e))
 ]
 
+-- a stop and a barrier give no block a new writer
 pub settles_writer : (port : ℕ) (old new : BlockView) → SettlesBlock port old new → (new.state.writer ≡ old.state.writer) ⊎ (new.state.writer ≡ None)
 settles_writer port old new settles = elim (writer_cases old.state.writer port) [
   | inl mine ↦ inr (settles.writer mine)

@@ -1,6 +1,6 @@
 -- How the uncovered blocks of a port are counted, and which bits of `picks` are set.
-use Rattle.std.proofs.Common.{◌≡◌, ◌≢◌, ◌<◌, ◌≤◌, ◌+◌, ◌-◌, ◌^◌, ◌%◌, ℕ, Bool, true, false, List, None, refl, ap, ◌∙◌, inl, inr, arith, add-zero, IsBitSet, bit_and, mod-eq_of_lt, length, length-set, set}
-use Rattle.std.proofs.lemmas.Nat.{and_le_l, and_comm, and_mask, pow_below, pow_pos}
+use Rattle.std.proofs.Common.{◌≡◌, ◌≢◌, ◌<◌, ◌+◌, ◌-◌, ◌^◌, ◌%◌, ℕ, Bool, true, false, List, None, refl, ap, ◌∙◌, inl, inr, arith, add-zero, IsBitSet, bit_and, mod-eq_of_lt, length, length-set, set}
+use Rattle.std.proofs.lemmas.Nat.{and_comm, and_mask, pow_below, pow_pos}
 use Rattle.std.proofs.Math.Nat.{mod-mod}
 use Rattle.std.proofs.lemmas.Bool.{cases_eq}
 use Rattle.disk_model.specs.Memory.{BlockView, view_at, block_at, stood_at, bit_at, next_at, port_at, view_of, bit_of}
@@ -12,9 +12,7 @@ use Rattle.disk_model.specs.declared.cell.Mark.TheVariants.{Covered, Lost, Waiti
 use Rattle.disk_model.specs.declared.port.Port.{Port}
 use Rattle.disk_model.proofs.Reaching.{port_at-set_same, port_at-set_other}
 
-pub IsBitSet-zero : (k : ℕ) → ¬ IsBitSet 0 k
-IsBitSet-zero k set = let none : bit_and 0 (2 ^ k) ≤ 0 = and_le_l 0 (2 ^ k) in set (omega arith)
-
+-- all 64 bits of the largest number are set
 pub IsBitSet-ones : (k : ℕ) → k < 64 → IsBitSet (2 ^ 64 - 1) k
 IsBitSet-ones k lt e =
     let is : bit_and (2 ^ 64 - 1) (2 ^ k) ≡ 2 ^ k =

@@ -9,6 +9,7 @@ use Rattle.disk_model.specs.declared.cell.Mark.{Mark}
 use Rattle.disk_model.specs.declared.cell.Mark.TheVariants.{Covered, Lost, Waiting}
 use Rattle.disk_model.specs.declared.memory.MemDisk.{MemDisk}
 
+-- each block is in reach
 pub mem_reaches : (d : MemDisk) (k : ℕ) → k < (mem_state d).size → (mem_state d).reach k ≡ true
 unfolding mem_state
 mem_reaches d k lt = lt-ltb k _ lt
@@ -31,6 +32,7 @@ lost_one Lost now before e o h = among-one _ _ h
 lost_one Covered now before e o h = cc
 lost_one (Waiting port was_lost bit) now before e o h = cc
 
+-- what holds of each block of a device
 pub mem_lawful : (d : MemDisk) (k : ℕ) → IsLawful (mem_state d).block k
 unfolding mem_state
 mem_lawful d k = record {

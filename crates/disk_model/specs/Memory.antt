@@ -75,22 +75,27 @@ abbrev pub place_of : ℕ → Bool → ℕ
 place_of k false = 2 * k
 place_of k true = 2 * k + 1
 
+-- what is known of block k; past the end it is covered
 abbrev pub cell_at : List Cell → ℕ → Cell
 cell_at cells k = slice_index_or cells k record { mark = Covered; second = false }
 
+-- one of the two copies of block k
 abbrev pub copy_at : List (List ℕ) → ℕ → Bool → List ℕ
 copy_at copies k second = slice_index_or copies (place_of k second) zero_block
 
--- block k
+-- block k, as a stop sees it
 abbrev pub view_at : List Cell → List (List ℕ) → ℕ → BlockView
 view_at cells copies k = cell_view (cell_at cells k) (copy_at copies k false) (copy_at copies k true)
 
+-- block k, as a device means it
 abbrev pub block_at : List Cell → List (List ℕ) → ℕ → BlockState
 block_at cells copies k = (view_at cells copies k).state
 
+-- what block k held before its first uncovered write
 abbrev pub stood_at : List Cell → List (List ℕ) → ℕ → Option (List ℕ)
 stood_at cells copies k = (view_at cells copies k).stood
 
+-- the bit of `picks` that block k belongs to
 abbrev pub bit_at : List Cell → ℕ → ℕ
 bit_at cells k = bit_of (cell_at cells k).mark
 
@@ -98,9 +103,11 @@ bit_at cells k = bit_of (cell_at cells k).mark
 abbrev pub waiter_at : List Cell → ℕ → Option ℕ
 waiter_at cells k = writer_of (cell_at cells k).mark
 
+-- port n; past the end it reaches no block
 abbrev pub port_at : List Port → ℕ → Port
 port_at ports n = slice_index_or ports n record { live = false; first = 0; end = 0; next_bit = 0 }
 
+-- port n may be used
 abbrev pub live_at : List Port → ℕ → Bool
 live_at ports n = (port_at ports n).live
 
@@ -108,8 +115,10 @@ live_at ports n = (port_at ports n).live
 abbrev pub next_at : List Port → ℕ → ℕ
 next_at ports n = (port_at ports n).next_bit % 64
 
+-- block k is one of the device
 abbrev pub is_below : ℕ → ℕ → Bool
 is_below size k = nat_lt k size
 
+-- a count that never rises
 abbrev pub zero_count : ℕ → ℕ
 zero_count n = 0

@@ -32,11 +32,12 @@ pub record StopsBlock (port picks : ℕ) (old new : BlockView) : Type 0 where
   pub kept : old.state.writer ≡ Some port → IsBitSet picks old.bit → new.state.current ≡ old.state.current
   pub back : old.state.writer ≡ Some port → ¬ IsBitSet picks old.bit → new.state.current ≡ old.stood
 
--- the copies after a content was put in one of them
+-- the first copy after a content was put in one of the two
 abbrev pub one_after : Bool → List ℕ → List ℕ → List ℕ
 one_after false content one = content
 one_after true content one = one
 
+-- the second copy after that
 abbrev pub two_after : Bool → List ℕ → List ℕ → List ℕ
 two_after false content two = two
 two_after true content two = content
@@ -46,9 +47,11 @@ abbrev pub WritesCell : ℕ → ℕ → Bool → Cell → Cell → Type 0
 WritesCell port bit is_first old new =
     (content one two : List ℕ) → WritesBlock port content (bit % 64) is_first (cell_view old one two) (cell_view new (one_after new.second content one) (two_after new.second content two))
 
+-- whatever is in the copies, the block is covered
 abbrev pub CoversCell : ℕ → Cell → Cell → Type 0
 CoversCell port old new = (one two : List ℕ) → CoversBlock port (cell_view old one two) (cell_view new one two)
 
+-- whatever is in the copies, the block is settled by the picks
 abbrev pub StopsCell : ℕ → ℕ → Cell → Cell → Type 0
 StopsCell port picks old new = (one two : List ℕ) → StopsBlock port picks (cell_view old one two) (cell_view new one two)
 

@@ -12,21 +12,25 @@ use crate::settle::{cover_blocks, settle_blocks, write_block};
 use sd_base::{Block, BlockNo, Disk, NodeId, ReadAnswer, WriteAnswer};
 use std::alloc::{AllocError, Global};
 
-/// A device in memory that stops and fails at no call.
+/// A device in memory. No call of it is stopped or fails, so that only `stop` stops a port.
 ///
 /// `stop` follows `picks`. The blocks that the port has written and not covered are counted from 0 in
 /// the order of their first such write since its last barrier or stop. Block `i` of this count belongs
 /// to bit `i % 64` of `picks`, bit 0 the lowest: where the bit is 1 it holds what was written last,
-/// and where it is 0 what it held before that first write, or it is lost if it was lost then.
+/// and where it is 0 what it held before that first write, or it is lost if it was lost then. A write
+/// of the content that a block already has counts like any other.
 #[derive(Drop)]
 pub struct MemDisk {
     size: u32,
     cells: Vec<Cell>,
+    /// The two copies of each block, one after the other.
     copies: LazyBlocks,
+    /// Port `n` at index `n`; there is no port 0.
     ports: [Port; 17],
     orders: u64,
     ghost celled: { length cells.items ≡ size },
     ghost copied: { length copies ≡ 2 * size },
+    // Barrier and stop look at the port's range alone, since all that waits for it lies there.
     ghost reached: { IsReached cells.items ports },
 }
 
