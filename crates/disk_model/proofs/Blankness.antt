@@ -8,9 +8,11 @@ use Rattle.disk_model.specs.declared.cell.Mark.TheVariants.{Covered}
 use Rattle.disk_model.proofs.BlockSteps.{place_of-within}
 use Rattle.disk_model.proofs.Reaching.{cell_at-blank}
 
+-- no block waits
 pub waiter_at-blank : (cells : List Cell) (count k : ℕ) → cells ≡ replicate count record { mark = Covered; second = false } → waiter_at cells k ≡ None
 waiter_at-blank cells count k e = rw (e, cell_at-blank count k) refl
 
+-- each copy of a block is zero
 copy_at-blank : (count k : ℕ) (second : Bool) → k < count → copy_at (replicate (2 * count) zero_block) k second ≡ zero_block
 copy_at-blank count k second lt = get_or-replicate (2 * count) (place_of k second) zero_block _ (place_of-within k second count lt)
 

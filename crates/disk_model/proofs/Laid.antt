@@ -15,6 +15,7 @@ read_at xs k x d lt e = get_or_default xs k d x lt ∙ sym e
 pub laid_out-at : (places : List (Option ℕ)) (contents : List (List ℕ)) (i : ℕ) → i < length places → get_or (laid_out places contents) i zero_block ≡ content_at contents (get_or places i None)
 laid_out-at places contents i lt = get_or-map (content_at contents) places i None zero_block lt
 
+-- each block has a content
 pub length-laid_out : (places : List (Option ℕ)) (contents : List (List ℕ)) → length (laid_out places contents) ≡ length places
 length-laid_out places contents = length-map places (content_at contents)
 
@@ -133,9 +134,11 @@ no_place n i = elim (cases_lt i n) [
   | inr past ↦ get_or_past (replicate n None) i None (simp length-replicate past)
 ]
 
+-- none of them has a place
 count_by-no_place : (n : ℕ) → count_by (is_some {T = ℕ}) (replicate n None) ≡ 0
 count_by-no_place n = let none = sum_by-replicate (λ o. cond (is_some {T = ℕ} o) 1 0) n None in omega (arith, none)
 
+-- blocks that have no place need no content
 pub IsLaid-blank : (n capacity : ℕ) → n ≤ capacity → IsLaid (replicate n None) [] capacity
 IsLaid-blank n capacity le = record {
   within = λ i p e. let no : get_or (replicate {A = Option ℕ} n None) i None ≡ None = no_place n i in cc;

@@ -8,9 +8,11 @@ use Rattle.disk_model.specs.declared.cell.Cell.{Cell}
 use Rattle.disk_model.specs.declared.cell.Mark.TheVariants.{Covered}
 use Rattle.disk_model.specs.declared.port.Port.{Port}
 
+-- the port that was written
 pub port_at-set_same : (ports : List Port) (n : ℕ) (port : Port) → n < length ports → port_at (set ports n port) n ≡ port
 port_at-set_same ports n port lt = get_or-set_same ports n port _ lt
 
+-- another port than the one that was written
 pub port_at-set_other : (ports : List Port) (n m : ℕ) (port : Port) → m ≢ n → port_at (set ports n port) m ≡ port_at ports m
 port_at-set_other ports n m port ne = get_or-set_other ports n m port _ ne
 
@@ -89,14 +91,20 @@ cell_at-blank count k = elim (cases_lt k count) [
 ]
 
 -- a port of a device that was made
-pub port_at-blank : (n : ℕ) (port : Port) → port.live ≡ false → port.end ≡ 0 → ((port_at (replicate 17 port) n).live ≡ false) × ((port_at (replicate 17 port) n).end ≡ 0)
-port_at-blank n port idle none = elim (cases_lt n 17) [
-  | inl lt ↦ let is : port_at (replicate 17 port) n ≡ port = get_or-replicate 17 n port _ lt in rw is (idle, none)
-  | inr past ↦ let is : port_at (replicate 17 port) n ≡ record { live = false; first = 0; end = 0; next_bit = 0 } = get_or_past (replicate 17 port) n _ (simp length-replicate past) in rw is (refl, refl)
+pub port_at-blank : (n : ℕ) (port : Port) → port.live ≡ false → port.end ≡ 0 → port.next_bit ≡ 0 → ((port_at (replicate 17 port) n).live ≡ false) × ((port_at (replicate 17 port) n).end ≡ 0) × ((port_at (replicate 17 port) n).next_bit ≡ 0)
+port_at-blank n port idle none zero = elim (cases_lt n 17) [
+  | inl lt ↦
+      let is : port_at (replicate 17 port) n ≡ port = get_or-replicate 17 n port _ lt in
+      rw is (idle, none, zero)
+  | inr past ↦
+      let is : port_at (replicate 17 port) n ≡ record { live = false; first = 0; end = 0; next_bit = 0 } =
+      get_or_past (replicate 17 port) n _ (simp length-replicate past) in
+      rw is (refl, refl, refl)
 ]
 
-pub IsReached-blank : (count : ℕ) (port : Port) → port.live ≡ false → port.end ≡ 0 → IsReached (replicate count record { mark = Covered; second = false }) (replicate 17 port)
-IsReached-blank count port idle none = record {
-  ends = λ n. let end = (port_at-blank n port idle none).1 in omega (arith, end);
+-- no block waits, and no port reaches one
+pub IsReached-blank : (count : ℕ) (port : Port) → port.live ≡ false → port.end ≡ 0 → port.next_bit ≡ 0 → IsReached (replicate count record { mark = Covered; second = false }) (replicate 17 port)
+IsReached-blank count port idle none zero = record {
+  ends = λ n. let end = (port_at-blank n port idle none zero).1 in omega (arith, end);
   waiting = λ n k w. let no : None ≡ Some n = rw cell_at-blank at w in cc;
 }

@@ -3,5 +3,7 @@ pub mod Memory
 pub mod Settling
 pub mod Reached
 pub mod Blank
+pub mod Picks
 pub mod MemState
+pub mod MemPicks
 pub mod MemStateLaws

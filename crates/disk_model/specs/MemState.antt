@@ -4,6 +4,7 @@ use Rattle.sd_base.specs.Disk.{DiskState}
 use Rattle.disk_model.specs.Memory.{block_at, is_below, zero_count, live_at}
 use Rattle.disk_model.specs.declared.memory.MemDisk.{MemDisk}
 
+-- the device
 unfoldable pub mem_state : MemDisk → DiskState
 mem_state m = record {
   name = 0;

@@ -1,6 +1,6 @@
 ghost use Rattle.std.specs.Prelude.{◌≡◌, ◌⊎◌, Some, None};
 ghost use Rattle.disk_model.specs.Memory.{writer_of, place_of};
-ghost use Rattle.disk_model.specs.Settling.{CoversCell, SettlesCell, WritesCell};
+ghost use Rattle.disk_model.specs.Settling.{CoversCell, StopsCell, WritesCell};
 
 use sd_base::BlockNo;
 
@@ -42,7 +42,7 @@ impl Cell {
     /// before, so that what the block held stays where it is.
     pub(crate) fn take(&mut self, port: u8, bit: u8) -> bool
         requires { (writer_of self.old.mark ≡ Some port) ⊎ (writer_of self.old.mark ≡ None) }
-        ensures { WritesCell port self.old self.new }
+        ensures { WritesCell port bit result self.old self.new }
     {
         let was_lost = match self.mark {
             Mark::Waiting { .. } => return false,
@@ -71,7 +71,7 @@ impl Cell {
 
     /// Gives the block its current content or what it held before, where it waits for the port.
     pub(crate) fn settle(&mut self, port: u8, picks: u64)
-        ensures { SettlesCell port self.old self.new }
+        ensures { StopsCell port picks self.old self.new }
     {
         if let Mark::Waiting {
             port: writer,

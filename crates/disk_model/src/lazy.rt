@@ -8,9 +8,10 @@ use std::marker::Model;
 /// What a block holds that was never written.
 static ZEROS: Block = [0; 4096];
 
-/// An array of blocks that are zero until they are written, and take no memory once it is made.
+/// An array of blocks that are zero until they are written. All its memory is reserved by `new`.
 #[derive(Drop)]
 pub(crate) struct LazyBlocks {
+    /// For each block where its content stands, and none before its first write.
     places: Vec<Option<usize>>,
     contents: Vec<Block>,
 }

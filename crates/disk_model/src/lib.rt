@@ -1,8 +1,8 @@
-//! A device of blocks in memory, for trials of what stands on devices.
+//! A device of blocks in memory.
 //!
-//! It promises what `sd_base::Disk` says of a device that tells its content (`MemDisk`). Its memory is
-//! taken when it is made, and a block costs none of it before it is written. It stands on `sd_base`
-//! alone.
+//! It promises all that `sd_base::Disk` says of a device that tells its content, and more: no call is
+//! stopped or fails, and a stop follows its `picks` (`MemDisk`). Its memory is reserved when it is
+//! made, and no later call takes any. It stands on `sd_base` alone.
 #![tactic(auto)]
 
 mod cell;

@@ -27,6 +27,7 @@ impl Port {
         ensures live { self.new.live ≡ self.old.live }
         ensures first { self.new.first ≡ min self.old.first k }
         ensures end { self.new.end ≡ max self.old.end (k + 1) }
+        ensures next_bit { self.new.next_bit ≡ self.old.next_bit }
     {
         self.first = self.first.min(k);
         self.end = self.end.max(k + 1);
@@ -36,6 +37,7 @@ impl Port {
     pub(crate) fn clear(&mut self)
         ensures live { self.new.live ≡ self.old.live }
         ensures end { self.new.end ≡ 0 }
+        ensures next_bit { self.new.next_bit ≡ 0 }
     {
         self.first = usize::MAX;
         self.end = 0;

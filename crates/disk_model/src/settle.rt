@@ -1,7 +1,7 @@
-ghost use Rattle.std.specs.Prelude.{◌≡◌, ◌≢◌, ◌<◌, ◌≤◌, ◌*◌, ℕ, List, Some, length};
+ghost use Rattle.std.specs.Prelude.{◌≡◌, ◌≢◌, ◌<◌, ◌≤◌, ◌*◌, ◌%◌, ℕ, List, Some, length};
 ghost use Rattle.sd_base.specs.Disk.{IsFreeFor};
-ghost use Rattle.disk_model.specs.Memory.{block_at, waiter_at};
-ghost use Rattle.disk_model.specs.Settling.{WritesBlock, SettlesBlock, CoversBlock, IsWithin};
+ghost use Rattle.disk_model.specs.Memory.{block_at, view_at, waiter_at};
+ghost use Rattle.disk_model.specs.Settling.{WritesBlock, CoversBlock, StopsBlock, IsWithin};
 
 use crate::cell::Cell;
 use crate::lazy::LazyBlocks;
@@ -21,8 +21,8 @@ pub(crate) fn write_block(
     requires free { IsFreeFor port (block_at cells.old.items copies.old at.0) }
     ensures cells { length cells.new.items ≡ length cells.old.items }
     ensures copies { length copies.new ≡ length copies.old }
-    ensures here { WritesBlock port content.now (block_at cells.old.items copies.old at.0) (block_at cells.new.items copies.new at.0) }
-    ensures others { (k : ℕ) → k ≢ at.0 → block_at cells.new.items copies.new k ≡ block_at cells.old.items copies.old k }
+    ensures here { WritesBlock port content.now (bit % 64) result (view_at cells.old.items copies.old at.0) (view_at cells.new.items copies.new at.0) }
+    ensures others { (k : ℕ) → k ≢ at.0 → view_at cells.new.items copies.new k ≡ view_at cells.old.items copies.old k }
 {
     let cell = &mut cells[at.0 as usize];
     let is_first = cell.take(port, bit);
@@ -36,7 +36,7 @@ pub(crate) fn cover_blocks(cells: &mut Vec<Cell>, first: usize, end: usize, port
     requires end { end ≤ length cells.old.items }
     requires within { IsWithin cells.old.items port first end }
     ensures len { length cells.new.items ≡ length cells.old.items }
-    ensures each { (copies : List (List ℕ)) (k : ℕ) → CoversBlock port (block_at cells.old.items copies k) (block_at cells.new.items copies k) }
+    ensures each { (copies : List (List ℕ)) (k : ℕ) → CoversBlock port (view_at cells.old.items copies k) (view_at cells.new.items copies k) }
 {
     for k in first..end {
         cells[k].cover(port);
@@ -48,7 +48,7 @@ pub(crate) fn settle_blocks(cells: &mut Vec<Cell>, first: usize, end: usize, por
     requires end { end ≤ length cells.old.items }
     requires within { IsWithin cells.old.items port first end }
     ensures len { length cells.new.items ≡ length cells.old.items }
-    ensures each { (copies : List (List ℕ)) (k : ℕ) → SettlesBlock port (block_at cells.old.items copies k) (block_at cells.new.items copies k) }
+    ensures each { (copies : List (List ℕ)) (k : ℕ) → StopsBlock port picks (view_at cells.old.items copies k) (view_at cells.new.items copies k) }
 {
     for k in first..end {
         cells[k].settle(port, picks);

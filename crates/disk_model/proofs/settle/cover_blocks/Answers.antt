@@ -1,7 +1,7 @@
 use Rattle.std.proofs.Common.{◌<◌, ◌∙◌, arith, length, length-set}
 use Rattle.disk_model.specs.Settling.{CoversBlock}
 use Rattle.disk_model.proofs.CellSteps.{CoversBlock-same}
-use Rattle.disk_model.proofs.BlockSteps.{changes_at, block_at-set_other, DoneBelow-more, DoneBelow-all}
+use Rattle.disk_model.proofs.BlockSteps.{changes_at, view_at-set_other, DoneBelow-more, DoneBelow-all}
 use Rattle.disk_model.proofs.settle.cover_blocks.Goals as goal
 
 pub loop-k-preserved : goal.loop-k-preserved
@@ -11,7 +11,7 @@ loop-k-preserved c =
       done = λ copies.
           DoneBelow-more _ _ _ _ _ (c.loop-k.invariant.done copies)
           (changes_at (CoversBlock c.args.port) _ copies _ _ _ lt c.index_mut.ensures.value c.cover.ensures)
-          (λ k ne. block_at-set_other _ copies _ k _ ne);
+          (λ k ne. view_at-set_other _ copies _ k _ ne);
     }
 
 pub returns-clause-each : goal.returns-clause-each

@@ -4,7 +4,7 @@ use Rattle.disk_model.proofs.cell.Cell.take.Goals.{in-Lost, in-Covered}
 
 pub returns-in-Waiting : goal.returns-in-Waiting
 returns-in-Waiting c = λ content one two.
-    writes_current_at _ _ _ _ _ _ content one two c.in-Waiting.is c.requires
+    writes_current_at _ _ _ _ _ _ _ content one two c.in-Waiting.is c.requires
 
 pub returns : goal.returns
 returns c = λ content one two. elim c.match-self.branch [

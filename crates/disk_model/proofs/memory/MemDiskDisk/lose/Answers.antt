@@ -15,6 +15,6 @@ invariant_of-self-clause-reached c =
 
 pub returns-clause-blocks : goal.returns-clause-blocks
 unfolding mem_state
-returns-clause-blocks c = λ t.
+returns-clause-blocks c =
     let lt : c.args.at.0 < length c.args.self.now.cells.items = search rules in
     loses_at _ c.args.self.now.copies c.args.at.0 _ lt

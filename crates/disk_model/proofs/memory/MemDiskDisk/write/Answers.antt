@@ -1,9 +1,10 @@
-use Rattle.std.proofs.Common.{◌≡◌, ◌<◌, arith, rules, length, length-set, set, ap}
-use Rattle.sd_base.specs.Disk.{BlockState}
-use Rattle.disk_model.specs.Memory.{block_at, port_at}
+use Rattle.std.proofs.Common.{refl, ◌≡◌, ◌<◌, arith, rules, length, length-set, set, ap}
+use Rattle.disk_model.specs.Memory.{BlockView, view_at, port_at}
 use Rattle.disk_model.specs.Reached.{Reaches, IsReached}
 use Rattle.disk_model.proofs.BlockSteps.{writes_narrows}
 use Rattle.disk_model.proofs.Reaching.{IsReached-widen, IsReached-write, port_at-set_same}
+use Rattle.disk_model.proofs.Counting.{WritesPicks-writes}
+use Rattle.disk_model.specs.MemPicks.{mem_picks}
 use Rattle.disk_model.specs.MemState.{mem_state}
 use Rattle.disk_model.proofs.memory.MemDiskDisk.write.Goals as goal
 
@@ -27,13 +28,22 @@ invariant_of-self-clause-reached c =
     } in
     let wrote : IsReached c.write_block-is_first.new.cells.items (set ports n c.widen.new.self) =
     IsReached-write cells _ _ n at wide c.write_block-is_first.ensures.cells
-    (λ k ne. ap (λ (b : BlockState). b.writer) (c.write_block-is_first.ensures.others k ne))
+    (λ k ne. ap (λ (b : BlockView). b.state.writer) (c.write_block-is_first.ensures.others k ne))
     c.write_block-is_first.ensures.here.writer reaches in
     IsReached-widen _ _ n _ wrote (omega (arith, length-set ports n c.widen.new.self)) (omega arith) (omega arith) (wrote.ends n)
 
 pub returns-clause-outcomes : goal.returns-clause-outcomes
 unfolding mem_state
-returns-clause-outcomes c = λ t k o h.
-    writes_narrows (block_at c.args.self.now.cells.items c.args.self.now.copies)
-    (block_at c.write_block-is_first.new.cells.items c.write_block-is_first.new.copies) c.args.n.0 c.args.at.0 c.args.content.now
+returns-clause-outcomes c = λ k o h.
+    writes_narrows (view_at c.args.self.now.cells.items c.args.self.now.copies)
+    (view_at c.write_block-is_first.new.cells.items c.write_block-is_first.new.copies) c.args.n.0 c.args.at.0 _ _ c.args.content.now
     c.write_block-is_first.ensures.here c.write_block-is_first.ensures.others k o h
+
+pub returns-clause-picks : goal.returns-clause-picks
+unfolding mem_state mem_picks
+returns-clause-picks c =
+    let lt : c.args.n.0 < length c.args.self.now.ports = omega arith in
+    WritesPicks-writes c.args.self.now.cells.items c.write_block-is_first.new.cells.items c.args.self.now.copies c.write_block-is_first.new.copies
+    c.args.self.now.ports c.args.n.0 c.args.at.0 c.from.result c.widen.new.self _ c.args.content.now c.write_block-is_first.result lt
+    c.write_block-is_first.ensures.here c.write_block-is_first.ensures.others c.widen.ensures.next_bit refl
+    (λ first. rw first at c.from.ensures) (λ again. rw again at c.from.ensures)
