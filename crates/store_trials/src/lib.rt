@@ -10,5 +10,5 @@ mod streams;
 pub use device::{Faults, FaultyDisk};
 pub use streams::{Script, Transcript};
 
-
-
+#[cfg(test)]
+mod tests;
