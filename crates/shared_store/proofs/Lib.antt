@@ -1,7 +1,9 @@
 mod Splitting
-mod Spelling
+mod SpellingLaws
+mod CommandLength
 mod Lining
 mod Running
 mod Serving
 mod Paging
 mod Formatting
+mod Buffering

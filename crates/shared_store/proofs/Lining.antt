@@ -1,10 +1,10 @@
 -- A text is read byte by byte.
-use Rattle.std.proofs.Common.{◌≡◌, ◌≢◌, ℕ, List, [], ◌∷◌, ◌++◌, ◌∙◌, length, sym, ap, refl, inl, inr, arith, append_assoc}
+use Rattle.std.proofs.Common.{◌≡◌, ◌≢◌, ℕ, List, [], ◌∷◌, ◌++◌, ◌∙◌, length, sym, ap, refl, inl, inr, arith, append_assoc, true, false, not}
 use Rattle.std.specs.List.{flat_map}
 use Rattle.std.proofs.lemmas.List.{length-append, get_or_append_left, get_or_at, flat_map_more, append-nil}
-use Rattle.std.proofs.lemmas.List.Elements.{All-push}
+use Rattle.std.proofs.lemmas.List.Elements.{All-push, filter-append}
 use Rattle.std.proofs.lemmas.Bool.{cases_lt}
-use Rattle.shared_store.specs.Lines.{HasNoFeed, ended, Splits}
+use Rattle.shared_store.specs.Lines.{HasNoFeed, ended, Splits, with_rest, is_silent, answered}
 
 -- one more byte that is no line feed
 HasNoFeed-push : (text : List ℕ) (b : ℕ) → HasNoFeed text → b ≢ 10 → HasNoFeed (text ++ b ∷ [])
@@ -33,3 +33,15 @@ Splits-line text lines rest s = record {
   each = All-push HasNoFeed lines rest s.each s.partial;
   partial = λ k lt. absurd (omega arith);
 }
+
+-- which of the lines get a reply, with one more line
+pub answered-silent : (lines : List (List ℕ)) (line : List ℕ) → is_silent line ≡ true → answered (lines ++ line ∷ []) ≡ answered lines
+answered-silent lines line silent = filter-append (λ l. not (is_silent l)) lines (line ∷ []) ∙ rw silent (append-nil (answered lines))
+
+pub answered-spoken : (lines : List (List ℕ)) (line : List ℕ) → is_silent line ≡ false → answered (lines ++ line ∷ []) ≡ answered lines ++ line ∷ []
+answered-spoken lines line spoken = filter-append (λ l. not (is_silent l)) lines (line ∷ []) ∙ rw spoken refl
+
+-- a rest that is empty is a line that gets none
+pub answered-with_rest : (lines : List (List ℕ)) (rest : List ℕ) → answered (with_rest lines rest) ≡ answered (lines ++ rest ∷ [])
+answered-with_rest lines [] = sym (answered-silent lines [] refl)
+answered-with_rest lines (b ∷ bytes) = refl

@@ -1,5 +1,6 @@
 -- How lines spell commands.
-use Rattle.std.specs.Prelude.{◌≡◌, ◌≢◌, ◌≤◌, ℕ, List, ◌++◌, length, codes, decimal, All, slice_index, ◌<◌}
+use Rattle.std.specs.Prelude.{◌≡◌, ◌≢◌, ◌≤◌, ℕ, List, ◌++◌, length, codes, decimal, slice_index, ◌<◌}
+use Rattle.shared_store.specs.Spelling.{spelled, IsValue}
 use Rattle.shared_store.specs.declared.command.Command.{Command}
 use Rattle.shared_store.specs.declared.command.Command.TheVariants.{Bad, Format, Get, Put}
 
@@ -7,21 +8,12 @@ use Rattle.shared_store.specs.declared.command.Command.TheVariants.{Bad, Format,
 abbrev pub IsKey : ℕ → Type 0
 IsKey k = k ≤ 4031
 
--- a byte that stands for itself in a value: printable, and no backslash
-abbrev pub IsPlain : ℕ → Type 0
-IsPlain b = (32 ≤ b) × (b ≤ 126) × (b ≢ 92)
-
--- a value that a line can spell
-pub record IsValue (v : List ℕ) : Type 0 where
-  pub short : length v ≤ 248
-  pub plain : All IsPlain v
-
 -- the line spells the command: words with one space between, a key in decimal digits without a leading zero,
--- and the value as the rest of the line
+-- and the spelling of the value as the rest of the line
 abbrev pub Spells : List ℕ → Command → Type 0
 Spells line Format = line ≡ codes "format 1 8 1 8 0"
 Spells line (Get key) = IsKey key.0 × (line ≡ codes "get 1.0 " ++ decimal key.0)
-Spells line (Put key v) = IsKey key.0 × IsValue v × (line ≡ codes "put 1.0 " ++ (decimal key.0 ++ (codes " " ++ v)))
+Spells line (Put key v) = IsKey key.0 × IsValue v × (line ≡ codes "put 1.0 " ++ (decimal key.0 ++ (codes " " ++ spelled v)))
 Spells line Bad = ⊥
 
 -- the line means the command: it spells it, or spells none and is bad
@@ -39,10 +31,10 @@ MeansGet rest (Get key) = IsKey key.0 × (rest ≡ decimal key.0)
 MeansGet rest (Put key v) = ⊥
 
 abbrev pub MeansPut : List ℕ → Command → Type 0
-MeansPut rest Bad = (k : ℕ) (v : List ℕ) → IsKey k → IsValue v → rest ≢ decimal k ++ (codes " " ++ v)
+MeansPut rest Bad = (k : ℕ) (v : List ℕ) → IsKey k → IsValue v → rest ≢ decimal k ++ (codes " " ++ spelled v)
 MeansPut rest Format = ⊥
 MeansPut rest (Get key) = ⊥
-MeansPut rest (Put key v) = IsKey key.0 × IsValue v × (rest ≡ decimal key.0 ++ (codes " " ++ v))
+MeansPut rest (Put key v) = IsKey key.0 × IsValue v × (rest ≡ decimal key.0 ++ (codes " " ++ spelled v))
 
 -- no byte of the text is a space
 abbrev pub HasNoSpace : List ℕ → Type 0

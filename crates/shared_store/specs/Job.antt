@@ -1,5 +1,5 @@
 -- What a whole run of the program tells.
-use Rattle.std.specs.Prelude.{◌≡◌, ◌≢◌, ◌+◌, ◌≤◌, ◌^◌, ◌↔◌, ℕ, List, ◌++◌}
+use Rattle.std.specs.Prelude.{true, false, ◌≡◌, ◌≢◌, ◌+◌, ◌≤◌, ◌^◌, ◌↔◌, ℕ, List, ◌++◌}
 use Rattle.sd_base.specs.Disk.{DiskState}
 use Rattle.sd_base.specs.Stream.{SourceState, SinkState}
 use Rattle.shared_store.specs.Records.{Seal, shut}
@@ -21,11 +21,11 @@ beginning seal disk sink = record { state = shut seal; disk = disk; taken = sink
 
 -- of the bytes that were read, the transcript was written whole, or up to within a reply where the sink failed
 abbrev pub Tells : Status → Beginning → List ℕ → DiskState → SinkState → Type 0
-Tells ended.Done from bytes disk sink = Transcribes from bytes disk sink.taken
+Tells ended.Done from bytes disk sink = Transcribes true from bytes disk sink.taken
 Tells ended.Usage from bytes disk sink = Unit {0}
-Tells ended.ReadFault from bytes disk sink = Transcribes from bytes disk sink.taken
+Tells ended.ReadFault from bytes disk sink = Transcribes false from bytes disk sink.taken
 Tells ended.WriteFault from bytes disk sink = TranscribesPart from bytes disk sink.taken
-Tells ended.TooLong from bytes disk sink = Transcribes from bytes disk sink.taken
+Tells ended.TooLong from bytes disk sink = Transcribes false from bytes disk sink.taken
 
 -- These bytes were read of the source, and the sink and the device tell the run over their lines.
 pub record TellsJob (status : Status) (from : Beginning) (source left : SourceState) (disk : DiskState) (sink : SinkState) : Type 0 where

@@ -1,3 +1,4 @@
+pub mod Spelling
 pub mod Command
 pub mod Reply
 pub mod LineBuffer

@@ -1,12 +1,13 @@
 -- The texts of replies: one line each.
 use Rattle.std.specs.Prelude.{ℕ, List, ◌++◌, codes, decimal}
+use Rattle.shared_store.specs.Spelling.{spelled}
 use Rattle.shared_store.specs.declared.reply.Reply.{Reply}
 use Rattle.shared_store.specs.declared.reply.Reply.TheVariants.{Fine, Found, Absent, Bad, Closed, Formatted, SmallDisk, LostPage, Limit, Stopped, Fault, DamagedDisk}
 
 -- the words of a reply
 abbrev pub reply_words : Reply → List ℕ
 reply_words Fine = codes "ok"
-reply_words (Found v) = codes "value " ++ v
+reply_words (Found v) = codes "value " ++ spelled v
 reply_words Absent = codes "absent"
 reply_words Bad = codes "bad"
 reply_words Closed = codes "closed"

@@ -2,7 +2,7 @@
 use Rattle.std.specs.Prelude.{◌≡◌, ℕ, Bool, List, ◌++◌}
 use Rattle.sd_base.specs.Disk.{DiskState}
 use Rattle.sd_base.specs.Stream.{SinkState}
-use Rattle.shared_store.specs.Lines.{Splits}
+use Rattle.shared_store.specs.Lines.{Splits, answered}
 use Rattle.shared_store.specs.LineBuffer.{HoldsLine}
 use Rattle.shared_store.specs.Records.{StoreState, Run}
 use Rattle.shared_store.specs.Tie.{Shows}
@@ -18,7 +18,7 @@ pub record Served (from : Beginning) (bytes : List ℕ) (line : LineBuffer) (is_
   pub end : StoreState
   pub splits : Splits bytes lines rest
   pub buffered : HoldsLine line rest
-  pub run : Run from.disk.size from.state lines replies end
+  pub run : Run from.disk.size from.state (answered lines) replies end
   pub size : now.size ≡ from.disk.size
   pub shows : Shows is_open now.size now.block end
   pub printed : sink.taken ≡ from.taken ++ transcript_text replies

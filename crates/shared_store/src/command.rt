@@ -1,7 +1,8 @@
-ghost use Rattle.std.specs.Prelude.{◌≡◌, ◌≤◌, ◌↔◌, ℕ, decimal, IsTrue, IfSome, IfNone};
-ghost use Rattle.shared_store.specs.Command.{Means, HasKey, MeansGet, MeansPut, IsKey, IsPlain, IsValue, IsFirstSpace, HasNoSpace};
+ghost use Rattle.std.specs.Prelude.{◌≡◌, ℕ, decimal, IfSome, IfNone};
+ghost use Rattle.shared_store.specs.Command.{Means, HasKey, MeansGet, MeansPut, IsKey, IsFirstSpace, HasNoSpace};
 
 use crate::numbers::read_number;
+use crate::spelling::read_value;
 use sd_base::{Key, Value};
 
 /// What a line asks for.
@@ -82,23 +83,4 @@ fn read_key(digits: &[u8]) -> Option<Key>
     } else {
         None
     }
-}
-
-/// The value that these bytes spell.
-fn read_value(text: &[u8]) -> Option<Value>
-    ensures found { IfSome result (λ v. IsValue v × (v ≡ text.now)) }
-    ensures only { IsValue text.now → result ≡ Some text.now }
-{
-    if text.iter().all(|b| is_plain(*b)) {
-        Value::from_slice(text)
-    } else {
-        None
-    }
-}
-
-/// Whether a byte stands for itself in a value.
-fn is_plain(b: u8) -> bool
-    ensures { IsTrue result ↔ IsPlain b }
-{
-    (0x20..=0x7e).contains(&b) && b != b'\\'
 }

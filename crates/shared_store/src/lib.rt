@@ -12,8 +12,10 @@ mod record;
 mod reply;
 mod script;
 mod session;
+mod spelling;
 mod store;
 
 pub use command::{Command, read_line};
 pub use reply::{Reply, ReplyText, write_reply};
 pub use script::{Status, run};
+pub use spelling::law_of_one_spelling;

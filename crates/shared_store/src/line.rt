@@ -1,6 +1,7 @@
 ghost use Rattle.std.specs.Prelude.{◌≡◌, ◌++◌, ◌∷◌, [], ℕ, List};
 ghost use Rattle.shared_store.specs.Command.{Means, HasKey};
 ghost use Rattle.shared_store.specs.LineBuffer.{HoldsLine};
+ghost use Rattle.shared_store.specs.Lines.{is_silent};
 
 use crate::command::{Command, read_line};
 use arrayvec::ArrayVec;
@@ -8,8 +9,8 @@ use arrayvec::ArrayVec;
 /// The longest line that is read, without its line feed.
 pub(crate) const MAX_LINE: usize = 1024;
 
-/// The line that is being read. Of a line that is too long only that is kept, so a line of any
-/// length takes the same room.
+/// The line that is being read. Of a line that is too long its first bytes are kept, so a line of
+/// any length takes the same room.
 #[derive(Drop)]
 pub(crate) struct LineBuffer {
     pub(crate) kept: ArrayVec<u8, MAX_LINE>,
@@ -43,6 +44,16 @@ impl LineBuffer {
     {
         self.kept.clear();
         self.is_long = false;
+    }
+
+    /// Whether the line gets no reply: it is empty or a comment.
+    pub(crate) fn is_silent(&self) -> bool
+        ensures { (line : List ℕ) → HoldsLine self.now line → result ≡ is_silent line }
+    {
+        match self.kept.as_slice() {
+            [] => true,
+            [first, ..] => *first == b'#',
+        }
     }
 
     /// What the line means.

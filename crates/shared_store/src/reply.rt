@@ -1,8 +1,10 @@
-ghost use Rattle.std.specs.Prelude.{◌≡◌, ◌+◌, ◌≤◌, ◌++◌, [], length, decimal, codes};
+ghost use Rattle.std.specs.Prelude.{◌≡◌, ◌+◌, ◌*◌, ◌≤◌, ◌++◌, [], length, decimal, codes};
 ghost use Rattle.arrayvec.specs.ArrayVec.{array_vec_len};
 ghost use Rattle.shared_store.specs.Reply.{reply_text};
+ghost use Rattle.shared_store.specs.Spelling.{spelled, spelled_byte};
 ghost use Rattle.shared_store.specs.FaultReply.{fault_reply};
 
+use crate::spelling::{hex_digit, is_plain};
 use arrayvec::ArrayVec;
 use itoa::Buffer;
 use sd_base::{BlockNo, DevFault, NodeId, PageNo, Value};
@@ -61,14 +63,38 @@ pub fn write_reply(reply: &Reply, out: &mut ReplyText)
     put_text(out, b"\n");
 }
 
-/// Writes `value`, a space and the value.
+/// Writes `value`, a space and the spelling of the value.
 fn put_value(out: &mut ReplyText, value: &Value)
     requires { array_vec_len out.old ≤ 100 }
-    ensures items { out.new.items ≡ out.old.items ++ codes "value " ++ value.now }
-    ensures len { array_vec_len out.new ≤ array_vec_len out.old + 254 }
+    ensures items { out.new.items ≡ out.old.items ++ codes "value " ++ spelled value.now }
+    ensures len { array_vec_len out.new ≤ array_vec_len out.old + 998 }
 {
     put_text(out, b"value ");
-    put_text(out, value.as_slice());
+    put_spelled(out, value.as_slice());
+}
+
+/// Writes the spelling of bytes.
+fn put_spelled(out: &mut ReplyText, bytes: &[u8])
+    requires { array_vec_len out.old + 4 * length bytes.now ≤ 1100 }
+    ensures items { out.new.items ≡ out.old.items ++ spelled bytes.now }
+    ensures len { array_vec_len out.new ≤ array_vec_len out.old + 4 * length bytes.now }
+{
+    for b in bytes {
+        put_byte(out, *b);
+    }
+}
+
+/// Writes the spelling of a byte.
+fn put_byte(out: &mut ReplyText, b: u8)
+    requires { array_vec_len out.old + 4 ≤ 1100 }
+    ensures items { out.new.items ≡ out.old.items ++ spelled_byte b }
+    ensures len { array_vec_len out.new ≤ array_vec_len out.old + 4 }
+{
+    if is_plain(b) {
+        out.push(b);
+    } else {
+        put_text(out, &[b'\\', b'x', hex_digit(b / 16), hex_digit(b % 16)]);
+    }
 }
 
 /// Writes words, a space and a number.

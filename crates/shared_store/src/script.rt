@@ -105,7 +105,15 @@ fn run_script<S: Source, K: Sink, D: Disk>(source: &mut S, sink: &mut K, disk: &
     while given < MAX_SCRIPT {
         let room = (MAX_SCRIPT - given).min(PIECE as u64) as usize;
         match read_piece(source, &mut piece, room) {
-            Took::Got(0) | Took::End => return Status::Done,
+            Took::End => {
+                // A last line without a line feed counts too.
+                let is_answered = session.answer_line(sink, disk);
+                return if is_answered {
+                    Status::Done
+                } else {
+                    Status::WriteFault
+                };
+            }
             Took::Failed => return Status::ReadFault,
             Took::Got(n) => {
                 given += n as u64;
@@ -118,13 +126,18 @@ fn run_script<S: Source, K: Sink, D: Disk>(source: &mut S, sink: &mut K, disk: &
     Status::TooLong
 }
 
-/// Reads at most `room` bytes to the front of the piece.
+/// Reads at most `room` bytes to the front of the piece. No bytes are the end.
 fn read_piece<S: Source>(source: &mut S, piece: &mut [u8; PIECE], room: usize) -> Took
     requires some { 0 < room }
     requires within { room ≤ 4096 }
+    requires counted { (S.state source.old).given < 2 ^ 64 }
     ensures faults { (S.state source.old).faults ≤ (S.state source.new).faults }
     ensures count { GivesCount result room (S.state source.old) (S.state source.new) }
     ensures bytes { IsTrue S.told → GivesBytes result piece.new (S.state source.old) (S.state source.new) }
+    ensures some { result ≢ Took.Got 0 }
 {
-    source.read(&mut piece[..room])
+    match source.read(&mut piece[..room]) {
+        Took::Got(0) => Took::End,
+        answer => answer,
+    }
 }

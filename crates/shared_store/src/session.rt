@@ -3,7 +3,8 @@ ghost use Rattle.sd_base.specs.Disk.{Rose};
 ghost use Rattle.shared_store.specs.Device.{IsQuiet};
 ghost use Rattle.shared_store.specs.Output.{StaysFlushed};
 ghost use Rattle.shared_store.specs.Tie.{CanServe};
-ghost use Rattle.shared_store.specs.Transcript.{Beginning, TranscribesPart};
+ghost use Rattle.shared_store.specs.Transcript.{Beginning, Transcribes, TranscribesPart};
+ghost use Rattle.shared_store.specs.Lines.{EndsLine};
 ghost use Rattle.shared_store.specs.Serving.{Served};
 
 use crate::line::LineBuffer;
@@ -41,7 +42,7 @@ impl Session {
             → Served from (bytes ++ piece.now) self.new.line self.new.store.is_open (D.state disk.new) (K.state sink.new)) }
         ensures cut { result ≡ false → (IsTrue K.told → IsTrue D.told → (from : Beginning) (bytes : List ℕ)
             → Served from bytes self.old.line self.old.store.is_open (D.state disk.old) (K.state sink.old)
-            → TranscribesPart from (bytes ++ piece.now) (D.state disk.new) (K.state sink.new).taken) }
+            → (more : List ℕ) → TranscribesPart from ((bytes ++ piece.now) ++ more) (D.state disk.new) (K.state sink.new).taken) }
     {
         for b in piece {
             if !self.take_byte(sink, disk, *b) {
@@ -66,19 +67,19 @@ impl Session {
             → Served from (bytes ++ b ∷ []) self.new.line self.new.store.is_open (D.state disk.new) (K.state sink.new)) }
         ensures cut { result ≡ false → (IsTrue K.told → IsTrue D.told → (from : Beginning) (bytes : List ℕ)
             → Served from bytes self.old.line self.old.store.is_open (D.state disk.old) (K.state sink.old)
-            → TranscribesPart from (bytes ++ b ∷ []) (D.state disk.new) (K.state sink.new).taken) }
+            → (more : List ℕ) → TranscribesPart from ((bytes ++ b ∷ []) ++ more) (D.state disk.new) (K.state sink.new).taken) }
     {
         if b == b'\n' {
-            self.end_line(sink, disk)
+            self.answer_line(sink, disk)
         } else {
             self.line.push(b);
             true
         }
     }
 
-    /// Answers the line that has ended. The reply is written and flushed before the next line is
-    /// read.
-    fn end_line<K: Sink, D: Disk>(&mut self, sink: &mut K, disk: &mut D) -> bool
+    /// Answers the line that is held, whether a line feed or the end of the script stands behind it.
+    /// The reply is written and flushed before the next line is read.
+    pub(crate) fn answer_line<K: Sink, D: Disk>(&mut self, sink: &mut K, disk: &mut D) -> bool
         requires ready { CanServe self.old.store.is_open (D.state disk.old) }
         requires quiet { IsTrue D.told → IsTrue self.old.store.is_open → IsQuiet (D.state disk.old).block }
         ensures ready { CanServe self.new.store.is_open (D.state disk.new) }
@@ -90,10 +91,17 @@ impl Session {
         ensures served { result ≡ true → (IsTrue K.told → IsTrue D.told → (from : Beginning) (bytes : List ℕ)
             → Served from bytes self.old.line self.old.store.is_open (D.state disk.old) (K.state sink.old)
             → Served from (bytes ++ 10 ∷ []) self.new.line self.new.store.is_open (D.state disk.new) (K.state sink.new)) }
+        ensures ended { result ≡ true → (IsTrue K.told → IsTrue D.told → (from : Beginning) (bytes : List ℕ)
+            → Served from bytes self.old.line self.old.store.is_open (D.state disk.old) (K.state sink.old)
+            → Transcribes true from bytes (D.state disk.new) (K.state sink.new).taken) }
         ensures cut { result ≡ false → (IsTrue K.told → IsTrue D.told → (from : Beginning) (bytes : List ℕ)
             → Served from bytes self.old.line self.old.store.is_open (D.state disk.old) (K.state sink.old)
-            → TranscribesPart from (bytes ++ 10 ∷ []) (D.state disk.new) (K.state sink.new).taken) }
+            → (more : List ℕ) → EndsLine more → TranscribesPart from (bytes ++ more) (D.state disk.new) (K.state sink.new).taken) }
     {
+        if self.line.is_silent() {
+            self.line.clear();
+            return true;
+        }
         let command = self.line.command();
         self.line.clear();
         let reply = self.store.exec(disk, &command);

@@ -200,18 +200,145 @@ fn streams_that_fail(rt: HostRuntime) -> Result<(), Fail> {
 }
 
 #[test]
-fn pieces_of_one_byte(rt: HostRuntime) -> Result<(), Fail> {
-    let script = "format 1 8 1 8 0\nput 1.0 5 a b\nget 1.0 5\nget 1.0 6\n";
-    for (given, taken) in [(1, 1), (1, 4096), (4096, 1), (7, 3)] {
+fn lines_and_values(rt: HostRuntime) -> Result<(), Fail> {
+    let format = "format 1 8 1 8 0\n";
+    for (script, transcript) in [
+        ("", ""),
+        ("\n", ""),
+        ("#", ""),
+        (
+            "format 1 8 1 8 0\nput 1.0 4032 x\nput 1.0 4031 x\nget 1.0 4031\n",
+            "formatted\nbad\nok\nvalue x\n",
+        ),
+        (
+            "# note\n\nPUT 1.0 5 x\nformat 1 8 1 8 0",
+            "bad\nformatted\n",
+        ),
+        (
+            "put 1.0 5 \\x00\\xff\\x5c ~\nget 1.0 5\n",
+            "ok\nvalue \\x00\\xff\\x5c ~\n",
+        ),
+        ("put 1.0 5 \nget 1.0 5", "ok\nvalue \n"),
+        ("put 1.0 5  a \nget 1.0 5\n", "ok\nvalue  a \n"),
+        (
+            "put 1.0 0 \\x0a\\x7f\\x1f\nget 1.0 0",
+            "ok\nvalue \\x0a\\x7f\\x1f\n",
+        ),
+        ("put 1.0 5 #\n #\nget 1.0 5", "ok\nbad\nvalue #\n"),
+    ] {
+        let mut disk = MemDisk::new(rt.alloc(), 263)?;
+        let script = format!(in rt.alloc(); "{format}{script}")?;
+        let transcript = format!(in rt.alloc(); "ok\n{transcript}")?;
+        expect(&rt, &mut disk, script.as_str(), transcript.as_str())?;
+    }
+    Ok(())
+}
+
+#[test]
+fn lines_that_are_bad(rt: HostRuntime) -> Result<(), Fail> {
+    for line in [
+        "put 1.0 5 \\x41",
+        "put 1.0 5 \\x5C",
+        "put 1.0 5 \\x5",
+        "put 1.0 5 a\\",
+        "put 1.0 5 \\",
+        "put 1.0 5 \\y00",
+        "put 1.0 5 \\xg0",
+        "put 1.0 5 caf\u{e9}",
+        "put 1.0 05 x",
+        "put 1.0 +5 x",
+        "put 1.0 5",
+        "put 1.0",
+        "put  1.0 5 x",
+        "put 1.1 5 x",
+        "put 2.0 5 x",
+        "put 1.0 5 x\r",
+        "put\t1.0 5 x",
+        "get 1.0 5\r",
+        "get 1.0 5 ",
+        "get 1.0  5",
+        "get 1.0 4032",
+        "get 1.0 4294967301",
+        "get 1.0 ",
+        "get 1.0 05",
+        "get",
+        " get 1.0 5",
+        "format 1 8 1 8 0 ",
+        "format 1 8 1 8 1",
+        "format",
+        "open",
+        " ",
+    ] {
+        let mut disk = MemDisk::new(rt.alloc(), 0)?;
+        let script = format!(in rt.alloc(); "{line}\n")?;
+        expect(&rt, &mut disk, script.as_str(), "bad\n")?;
+        expect(&rt, &mut disk, line, "bad\n")?;
+    }
+    Ok(())
+}
+
+/// This text so many times.
+fn repeated(alloc: Global, text: &str, count: usize) -> Result<String, AllocError> {
+    let mut all = String::new(alloc);
+    for _ in 0..count {
+        all.push_str(text)?;
+    }
+    Ok(all)
+}
+
+#[test]
+fn long_lines(rt: HostRuntime) -> Result<(), Fail> {
+    let alloc = rt.alloc();
+    let letters = repeated(alloc, "a", 1025)?;
+    let most = repeated(alloc, "\\x00", 248)?;
+    let plain = repeated(alloc, "~", 248)?;
+    for (script, transcript) in [
+        // A line that is too long is bad, but a comment is a comment.
+        (
+            format!(in alloc; "{letters}\nformat 1 8 1 8 0")?,
+            format!(in alloc; "bad\nok\n")?,
+        ),
+        (
+            format!(in alloc; "#{letters}\nformat 1 8 1 8 0")?,
+            format!(in alloc; "ok\n")?,
+        ),
+        (
+            format!(in alloc; "{letters}{letters}{letters}")?,
+            format!(in alloc; "bad\n")?,
+        ),
+        // 248 bytes are the most that a value has, however they are spelled.
+        (
+            format!(in alloc; "format 1 8 1 8 0\nput 1.0 5 {most}\nget 1.0 5\n")?,
+            format!(in alloc; "ok\nok\nvalue {most}\n")?,
+        ),
+        (
+            format!(in alloc; "format 1 8 1 8 0\nput 1.0 5 {most}\\x00\nget 1.0 5\n")?,
+            format!(in alloc; "ok\nbad\nabsent\n")?,
+        ),
+        (
+            format!(in alloc;
+                "format 1 8 1 8 0\nput 1.0 5 {plain}\nput 1.0 6 {plain}~\nget 1.0 5\n"
+            )?,
+            format!(in alloc; "ok\nok\nbad\nvalue {plain}\n")?,
+        ),
+    ] {
+        let mut disk = MemDisk::new(alloc, 263)?;
+        expect(&rt, &mut disk, script.as_str(), transcript.as_str())?;
+    }
+    Ok(())
+}
+
+#[test]
+fn pieces_that_end_anywhere(rt: HostRuntime) -> Result<(), Fail> {
+    let script = "# note\nformat 1 8 1 8 0\nput 1.0 5 a \\x00b\n\nget 1.0 5\nget 1.0 6";
+    let transcript = "ok\nok\nvalue a \\x00b\nabsent\n";
+    for (given, taken) in [(1, 1), (1, 4096), (2, 2), (4096, 1), (7, 3), (31, 5)] {
         let mut disk = MemDisk::new(rt.alloc(), 263)?;
         let source = Script::new(script.as_bytes(), given, &[]);
         let sink = Transcript::new(rt.alloc(), taken, &[], &[]);
         let trial = try_out(rt.alloc(), &mut disk, source, sink)?;
         assert_eq!(rt; trial.status, Status::Done);
-        assert_eq!(rt;
-            trial.sink.bytes(),
-            b"ok\nok\nvalue a b\nabsent\n".as_slice()
-        );
+        assert_eq!(rt; trial.sink.bytes(), transcript.as_bytes());
     }
     Ok(())
 }

@@ -1,6 +1,9 @@
-use Rattle.std.proofs.Common.{◌++◌, ◌∙◌, [], take, ap, sym, refl, inl, arith, append_assoc}
+use Rattle.std.proofs.Common.{◌++◌, ◌∙◌, [], take, ap, sym, refl, inl, arith, append_assoc, ℕ, List, subst}
 use Rattle.shared_store.specs.Output.{StaysFlushed-then}
-use Rattle.shared_store.proofs.Serving.{served_none}
+use Rattle.std.proofs.lemmas.List.{append-nil}
+use Rattle.shared_store.specs.Transcript.{TranscribesPart}
+use Rattle.shared_store.specs.Job.{beginning}
+use Rattle.shared_store.proofs.Serving.{served_none, served_transcribes}
 use Rattle.shared_store.proofs.script.run_script.Goals as goal
 
 pub loop-given-init : goal.loop-given-init
@@ -42,5 +45,34 @@ returns-then-not-feed-clause-transcript g c = λ tellS tellK tellD seal shows.
     record {
       bytes = before.0 ++ take c.in-Got.n c.read_piece.new.piece;
       read = before.1 ∙ ap (λ xs. before.0 ++ xs) (c.in-Got.ensures.bytes tellS).0 ∙ sym (append_assoc before.0 (take c.in-Got.n c.read_piece.new.piece) (g.S.Source.state c.read_piece.new.source).left);
-      tells = c.feed.ensures.cut c.if-not-feed.true tellK tellD _ before.0 before.2;
+      tells = (let P : List ℕ → Type 0 = λ xs. TranscribesPart (beginning seal (g.D.Disk.state c.args.disk.now) (g.K.Sink.state c.args.sink.now)) xs (g.D.Disk.state c.feed.new.disk) (g.K.Sink.state c.feed.new.sink).taken in
+          subst P (append-nil (before.0 ++ take c.in-Got.n c.read_piece.new.piece)) (c.feed.ensures.cut c.if-not-feed.true tellK tellD _ before.0 before.2 []));
+    }
+
+pub returns-in-Failed-clause-transcript : goal.returns-in-Failed-clause-transcript
+returns-in-Failed-clause-transcript g c = λ tellS tellK tellD seal shows.
+    let before = c.loop-given.invariant.served tellS tellK tellD seal shows in
+    record {
+      bytes = before.0;
+      read = before.1 ∙ ap (λ xs. before.0 ++ xs) (sym (c.in-Failed.ensures.bytes tellS));
+      tells = served_transcribes _ before.0 c.loop-given.session.line c.loop-given.session.store.is_open (g.D.Disk.state c.loop-given.disk) (g.K.Sink.state c.loop-given.sink) (c.loop-given.invariant.quiet tellD) before.2;
+    }
+
+pub returns-clause-transcript : goal.returns-clause-transcript
+returns-clause-transcript g c = λ tellS tellK tellD seal shows.
+    let before = c.loop-given.invariant.served tellS tellK tellD seal shows in
+    record {
+      bytes = before.0;
+      read = before.1;
+      tells = served_transcribes _ before.0 c.loop-given.session.line c.loop-given.session.store.is_open (g.D.Disk.state c.loop-given.disk) (g.K.Sink.state c.loop-given.sink) (c.loop-given.invariant.quiet tellD) before.2;
+    }
+
+pub returns-else-is_answered-clause-transcript : goal.returns-else-is_answered-clause-transcript
+returns-else-is_answered-clause-transcript g c = λ tellS tellK tellD seal shows.
+    let before = c.loop-given.invariant.served tellS tellK tellD seal shows in
+    record {
+      bytes = before.0;
+      read = before.1 ∙ ap (λ xs. before.0 ++ xs) ((c.in-End.ensures.bytes tellS).0 ∙ sym (c.in-End.ensures.bytes tellS).1);
+      tells = (let P : List ℕ → Type 0 = λ xs. TranscribesPart (beginning seal (g.D.Disk.state c.args.disk.now) (g.K.Sink.state c.args.sink.now)) xs (g.D.Disk.state c.answer_line-is_answered.new.disk) (g.K.Sink.state c.answer_line-is_answered.new.sink).taken in
+          subst P (append-nil before.0) (c.answer_line-is_answered.ensures.cut c.if-is_answered.false tellK tellD _ before.0 before.2 [] tt));
     }
