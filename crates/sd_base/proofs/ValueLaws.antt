@@ -1,5 +1,5 @@
 -- Bytes that are kept in front of zeros, and bytes that are cut.
-use Rattle.std.proofs.Common.{◌≡◌, ◌≤◌, ◌+◌, ◌-◌, ℕ, List, ◌++◌, length, take, drop, replicate, ◌∙◌, ap, sym, refl, arith}
+use Rattle.std.proofs.Common.{◌≡◌, ◌≤◌, ◌+◌, ◌-◌, ℕ, List, ◌++◌, length, take, drop, replicate, ◌∙◌, ap, sym, arith}
 use Rattle.std.proofs.lemmas.List.{append_assoc, drop-replicate, length-append, length-replicate}
 use Rattle.std.proofs.Math.Seq.{take-append-add}
 use Rattle.sd_base.specs.Text.{put}

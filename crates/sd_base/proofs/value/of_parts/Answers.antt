@@ -1,4 +1,4 @@
-use Rattle.std.proofs.Common.{◌≡◌, ◌+◌, ◌-◌, ◌++◌, ◌∙◌, ℕ, List, length, take, drop, replicate, ap, sym, arith}
+use Rattle.std.proofs.Common.{◌≡◌, ◌+◌, ◌-◌, ◌++◌, ◌∙◌, ℕ, List, length, take, drop, replicate, ap, arith}
 use Rattle.std.proofs.lemmas.List.{length-append, length-replicate, drop_at, take_at}
 use Rattle.sd_base.specs.Text.{put}
 use Rattle.sd_base.proofs.ValueLaws.{put-parts}
@@ -14,8 +14,8 @@ invariant_of-result c =
       c.requires,
       ap length made ∙ simp (length-append, length-replicate) (omega (arith, c.requires)),
       ap (drop (length front + length back)) made
-      ∙ drop_at (front ++ back) zeros (length front + length back) long
-      ∙ ap (λ n. replicate (248 - n) 0) long,
+          ∙ drop_at (front ++ back) zeros (length front + length back) long
+          ∙ ap (λ n. replicate (248 - n) 0) long,
     )
 
 pub returns : goal.returns
