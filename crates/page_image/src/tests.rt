@@ -81,19 +81,19 @@ fn value(bytes: Option<&[u8]>) -> Option<Value> {
     Value::from_slice(bytes?)
 }
 
-// What page 9 holds with this in slot 5.
-fn page_with(content: Option<&[u8]>, ident: u64) -> PageView {
+// What page 9 holds with this in slot 5, after two puts and another change.
+fn page_with(content: Option<&[u8]>) -> PageView {
     let mut slots = [None; 16];
     slots[5] = value(content);
     slots[6] = value(Some(b"behind"));
     PageView {
         page: PageNo(9),
-        ident,
+        ident: 43,
         slots,
     }
 }
 
-// What is read of page 9 after a change. It had this in slot 5, and the identifier 42.
+// What is read of page 9, with this in slot 5, after a change.
 fn changed(content: Option<&[u8]>, op: &PageOp) -> Option<PageView>
     requires { slot_of op.now ≤ 15 }
 {
@@ -142,7 +142,11 @@ fn appends_bytes(rt: HostRuntime) -> Result<(), Fail> {
     ] {
         let bytes = Value::from_slice(more).ok_or("too long")?;
         let read = changed(before, &PageOp::Append { slot: 5, bytes });
-        assert_eq!(rt; read, Some(page_with(Some(after), 43)));
+        assert_eq!(rt;
+            read,
+            Some(page_with(Some(after))),
+            "{more:?} to {before:?}"
+        );
     }
     Ok(())
 }
@@ -165,6 +169,10 @@ fn cuts_values(rt: HostRuntime) {
             present,
             len,
         };
-        assert_eq!(rt; changed(before, &cut), Some(page_with(after, 43)));
+        assert_eq!(rt;
+            changed(before, &cut),
+            Some(page_with(after)),
+            "{cut:?} of {before:?}"
+        );
     }
 }
