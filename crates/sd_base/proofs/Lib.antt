@@ -1,5 +1,6 @@
 pub mod TextLaws
 pub mod PutLaws
+mod ValueLaws
 pub mod Rows
 pub mod PageLaws
 mod SuperFields

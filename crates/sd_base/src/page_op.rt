@@ -1,8 +1,14 @@
 use crate::value::Value;
 
-/// A change of one page.
+/// A change of one slot of a page. The slots are numbered from 0 to 15.
 #[derive(Clone, Copy, Debug, PartialEq, Eq)]
 pub enum PageOp {
     /// The slot holds this value from now on, or none.
     Put { slot: u8, after: Option<Value> },
+    /// The slot's value gets these bytes behind its own, and what is past 248 bytes is dropped.
+    /// An absent slot counts as empty.
+    Append { slot: u8, bytes: Value },
+    /// If `present`, the slot keeps the first `len` bytes of its value, or all of a shorter one.
+    /// An absent slot counts as empty, and so becomes present. Otherwise the slot becomes absent.
+    Cut { slot: u8, present: bool, len: u8 },
 }

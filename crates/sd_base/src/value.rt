@@ -1,4 +1,5 @@
-ghost use Rattle.std.specs.Prelude.{◌≡◌, ◌<◌, ◌≤◌, ◌↔◌, ◌++◌, length, drop, IsNone, IfSome};
+ghost use Rattle.std.specs.Prelude.{◌≡◌, ◌+◌, ◌<◌, ◌≤◌, ◌↔◌, [], ◌++◌, length, take, IsNone, IfSome};
+ghost use Rattle.sd_base.specs.Text.{put};
 
 use std::marker::Model;
 
@@ -25,17 +26,39 @@ impl Model for Value {
     ghost inverse_ok = { λ a h. λ i. record { len = (padded_is 248 a.len a.bytes h.0 h.1 h.2).0 i; bytes = (padded_is 248 a.len a.bytes h.0 h.1 h.2).1 i } };
 }
 
-/// Copies bytes to the front.
-fn copy_to_front(out: &mut [u8; 248], s: &[u8])
-    requires { length s.now ≤ 248 }
-    ensures { out.new ≡ s.now ++ drop (length s.now) out.old }
+/// Puts bytes into those of a value.
+#[tactic(auto, unfolding(crate::specs::Text::put))]
+fn put_part(out: &mut [u8; 248], at: usize, part: &[u8])
+    requires { at + length part.now ≤ 248 }
+    ensures { out.new ≡ put at part.now out.old }
 {
-    out[..s.len()].copy_from_slice(s);
+    out[at..at + part.len()].copy_from_slice(part);
+}
+
+/// The value of the bytes of two parts.
+fn of_parts(front: &[u8], back: &[u8]) -> Value
+    requires { length front.now + length back.now ≤ 248 }
+    ensures { result ≡ front.now ++ back.now }
+{
+    let mut bytes = [0; 248];
+    put_part(&mut bytes, 0, front);
+    put_part(&mut bytes, front.len(), back);
+    Value {
+        len: (front.len() + back.len()) as u8,
+        bytes,
+    }
 }
 
 impl Value {
     /// The longest value, in bytes.
     pub const MAX_LEN: usize = 248;
+
+    /// The value of no bytes.
+    pub fn empty() -> Value
+        ensures { result ≡ [] }
+    {
+        of_parts(&[], &[])
+    }
 
     /// The value of these bytes, unless they are too many.
     pub fn from_slice(s: &[u8]) -> Option<Value>
@@ -45,12 +68,7 @@ impl Value {
         if s.len() > Value::MAX_LEN {
             return None;
         }
-        let mut bytes = [0; 248];
-        copy_to_front(&mut bytes, s);
-        Some(Value {
-            len: s.len() as u8,
-            bytes,
-        })
+        Some(of_parts(s, &[]))
     }
 
     /// The bytes of the value.
@@ -59,5 +77,22 @@ impl Value {
         ensures short { length self.now ≤ 248 }
     {
         &self.bytes[..self.len as usize]
+    }
+
+    /// The first `len` bytes of the value, or all of a shorter one.
+    pub fn prefix(&self, len: u8) -> Value
+        ensures { result ≡ take len self.now }
+    {
+        let kept = self.len.min(len);
+        of_parts(&self.bytes[..kept as usize], &[])
+    }
+
+    /// The bytes of the value, and these behind them. What is past 248 bytes is dropped.
+    pub fn join(&self, more: &Value) -> Value
+        ensures { result ≡ take 248 (self.now ++ more.now) }
+    {
+        let bytes = self.as_slice();
+        let room = Value::MAX_LEN - bytes.len();
+        of_parts(bytes, more.prefix(room as u8).as_slice())
     }
 }
