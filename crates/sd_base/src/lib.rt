@@ -1,5 +1,6 @@
 //! The ground that every crate of the store stands on: the words for devices of blocks, for input
-//! and output, and for the shape of a store, and the text of a super.
+//! and output, for the shape of a store and the values of its records, the text of a super, and the
+//! header that all pages share.
 //!
 //! It promises the one meaning of a device that all other contracts speak of (`Disk`), of a source
 //! and a sink of bytes (`Source`, `Sink`), and that a super is read exactly where it was written

@@ -62,7 +62,7 @@ impl Source for Script<'_> {
 #[derive(Drop)]
 pub struct Transcript {
     taken: Vec<u8>,
-    /// How many bytes it takes at once, at most.
+    /// How many bytes it takes at once, at most. Where it takes none, that counts as a fault.
     piece: usize,
     failing_writes: &'static [u64],
     failing_flushes: &'static [u64],
@@ -70,7 +70,6 @@ pub struct Transcript {
     flushes: u64,
     flushed: usize,
     faults: u64,
-    ghost some: { 0 < piece },
 }
 
 impl Transcript {
@@ -80,7 +79,6 @@ impl Transcript {
         failing_writes: &'static [u64],
         failing_flushes: &'static [u64],
     ) -> Transcript
-        requires { 0 < piece }
         ensures { (⟦<Transcript as Sink>⟧.state result).taken ≡ [] }
     {
         Transcript {
@@ -122,6 +120,10 @@ impl Sink for Transcript {
             return Put::Failed;
         }
         let n = piece.len().min(self.piece);
+        if n == 0 && !piece.is_empty() {
+            self.faults = self.faults.saturating_add(1);
+            return Put::Took(0);
+        }
         match self.taken.extend_from_slice(&piece[..n]) {
             Ok(()) => Put::Took(n),
             Err(_) => {

@@ -182,16 +182,17 @@ fn a_stop_and_a_failure_at_each_kind_of_call(rt: HostRuntime) -> Result<(), Fail
 #[test]
 fn streams_that_fail(rt: HostRuntime) -> Result<(), Fail> {
     let script = "format 1 8 1 8 0\nput 1.0 5 a\nget 1.0 5\n";
-    for (failing_reads, failing_writes, failing_flushes, status, transcript) in [
-        (&[2], &[0], &[0], Status::ReadFault, "ok\n"),
-        (&[0], &[1], &[0], Status::WriteFault, ""),
-        (&[0], &[3], &[0], Status::WriteFault, "ok\nok\n"),
-        (&[0], &[0], &[1], Status::WriteFault, "ok\n"),
-        (&[0], &[0], &[0], Status::Done, "ok\nok\nvalue a\n"),
+    for (failing_reads, taken, failing_writes, failing_flushes, status, transcript) in [
+        (&[2], 4096, &[0], &[0], Status::ReadFault, "ok\n"),
+        (&[0], 0, &[0], &[0], Status::WriteFault, ""),
+        (&[0], 4096, &[1], &[0], Status::WriteFault, ""),
+        (&[0], 4096, &[3], &[0], Status::WriteFault, "ok\nok\n"),
+        (&[0], 4096, &[0], &[1], Status::WriteFault, "ok\n"),
+        (&[0], 4096, &[0], &[0], Status::Done, "ok\nok\nvalue a\n"),
     ] {
         let mut disk = MemDisk::new(rt.alloc(), 263)?;
         let source = Script::new(script.as_bytes(), 17, failing_reads);
-        let sink = Transcript::new(rt.alloc(), 4096, failing_writes, failing_flushes);
+        let sink = Transcript::new(rt.alloc(), taken, failing_writes, failing_flushes);
         let trial = try_out(rt.alloc(), &mut disk, source, sink)?;
         assert_eq!(rt; trial.status, status, "{transcript}");
         assert_eq!(rt; trial.sink.bytes(), transcript.as_bytes());
