@@ -1,6 +1,7 @@
 mod Splitting
 mod SpellingLaws
 mod CommandLength
+mod LineLaws
 mod Lining
 mod Running
 mod Serving

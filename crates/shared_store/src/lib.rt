@@ -22,6 +22,7 @@ mod spelling;
 mod store;
 
 pub use command::{Command, read_line};
+pub use line::law_of_one_splitting;
 pub use reply::{Reply, ReplyText, write_reply};
 pub use script::{Status, run};
 pub use spelling::law_of_one_spelling;
