@@ -4,3 +4,4 @@ mod ValueLaws
 pub mod Rows
 pub mod PageLaws
 mod SuperFields
+mod AnchorFields

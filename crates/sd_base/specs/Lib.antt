@@ -9,3 +9,4 @@ pub mod Text
 pub mod Shape
 pub mod Supers
 pub mod Page
+pub mod Anchors

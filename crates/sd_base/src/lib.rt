@@ -1,13 +1,14 @@
 //! The ground that every crate of the store stands on: the words for devices of blocks, for input
-//! and output, for the shape of a store and the values of its records, the text of a super, and the
-//! header that all pages share.
+//! and output, for the shape of a store and the values of its records, the texts of supers and
+//! anchors, and the header that all pages share.
 //!
 //! It promises the one meaning of a device that all other contracts speak of (`Disk`), of a source
-//! and a sink of bytes (`Source`, `Sink`), and that a super is read exactly where it was written
-//! (`write_super`, `parse_super`). It stands on `byteorder` for numbers in bytes and on nothing else
-//! of the store.
+//! and a sink of bytes (`Source`, `Sink`), and that a super and an anchor are read exactly where they
+//! were written (`write_super`, `parse_super`, `write_anchor`, `parse_anchor`). It stands on
+//! `byteorder` for numbers in bytes and on nothing else of the store.
 #![tactic(auto)]
 
+mod anchors;
 mod device;
 mod fault;
 mod names;
@@ -19,6 +20,7 @@ mod supers;
 mod text;
 mod value;
 
+pub use anchors::{MAX_ANCHOR, parse_anchor, write_anchor};
 pub use device::{Block, BlockNo, Disk, NodeId, ReadAnswer, WriteAnswer};
 pub use fault::DevFault;
 pub use names::{Key, PageNo};
@@ -29,3 +31,6 @@ pub use stream::{Put, Sink, Source, Took};
 pub use supers::{parse_super, write_super};
 pub use text::{put_bytes, put_u32, put_u64, u32_at, u64_at};
 pub use value::Value;
+
+#[cfg(test)]
+mod tests;
