@@ -13,10 +13,13 @@ use Rattle.page_image.specs.Change.{applied}
 use Rattle.shared_store.specs.Device.{WritesThrough}
 use Rattle.shared_store.specs.ReadPage.{IsDataPage}
 use Rattle.shared_store.specs.Records.{Sealed, StoreState, shut, opened, page_of, with_record, with_change, Answers, AnswersGet, AnswersPut, after}
-use Rattle.shared_store.specs.Tie.{Shows, ShowsSeal, HoldsPage, ShowsPage, ShowsOpen, HasCause, is_stop}
+use Rattle.shared_store.specs.Tie.{Shows, ShowsSeal, HoldsPage, ShowsPage, KeepsPage, ShowsOpen, HasCause, is_stop}
 use Rattle.shared_store.specs.declared.command.Command.TheVariants as asks
 use Rattle.shared_store.specs.declared.reply.Reply.{Reply}
 use Rattle.shared_store.specs.declared.reply.Reply.TheVariants as says
+
+pub stop_is_not_fine : (reply : Reply) → is_stop reply ≡ true → reply ≡ says.Fine → ⊥
+stop_is_not_fine reply stop fine = cc (ap is_stop fine)
 
 -- a stop may be answered to a get and to a put
 pub stop_answers_get : (reply : Reply) (found : Option (List ℕ)) (a b : DiskState) → is_stop reply ≡ true → HasCause reply a b → AnswersGet found reply
@@ -137,6 +140,14 @@ module _ (size : ℕ) (old new : ℕ → BlockState) (records : ℕ → Option (
       let W : ℕ → Type 0 = λ k. WritesThrough k bytes old new in
       let here : at ≡ 10 + page_of key = at_is ∙ ap (λ x. 10 + x) page_is in
       shows_put size old new records changes key value bytes s (subst N here narrows) (subst W here written) (holds_put_at h (subst T place_is text))
+
+  pub keeps_put_at : (h : HoldsPage before records changes page) → IsTextOf (applied (change.Put place (Some value)) h.image) bytes → WritesThrough at bytes old new → KeepsPage new (with_record key value records) (with_change (page_of key) changes) (page_of key)
+  keeps_put_at h text written =
+      let T : ℕ → Type 0 = λ i. IsTextOf (applied (change.Put i (Some value)) h.image) bytes in
+      let W : ℕ → Type 0 = λ k. WritesThrough k bytes old new in
+      let here : at ≡ 10 + page_of key = at_is ∙ ap (λ x. 10 + x) page_is in
+      let there : WritesThrough (10 + page_of key) bytes old new = subst W here written in
+      record { bytes = bytes; stays = there.holds; holds = holds_put_at h (subst T place_is text) }
 
 -- an open store's answers are those of its records
 pub answers_get : (is_open : Bool) (size : ℕ) (b : ℕ → BlockState) (state : StoreState) (key : Key) (reply : Reply) → is_open ≡ true → Shows is_open size b state → ((records : ℕ → Option (List ℕ)) (changes : ℕ → ℕ) → ShowsOpen size b records changes → AnswersGet (records key.0) reply) → Answers size state (asks.Get key) reply

@@ -1,6 +1,6 @@
 -- How a device shows a state of the store.
 use Rattle.std.specs.Prelude.{◌≡◌, ◌+◌, ◌%◌, ◌≤◌, ◌<◌, ℕ, Bool, true, false, List, Option, Some, None, slice_index_or}
-use Rattle.sd_base.specs.Disk.{BlockState, DiskState, MayHold, Rose}
+use Rattle.sd_base.specs.Disk.{BlockState, DiskState, MayHold, Holds, Rose}
 use Rattle.sd_base.specs.Shape.{IsShape}
 use Rattle.sd_base.specs.Supers.{super_text}
 use Rattle.sd_base.specs.declared.shape.Shape.{Shape}
@@ -33,6 +33,12 @@ pub record HoldsPage (bytes : List ℕ) (records : ℕ → Option (List ℕ)) (c
 pub record ShowsPage (b : ℕ → BlockState) (records : ℕ → Option (List ℕ)) (changes : ℕ → ℕ) (page : ℕ) : Type 0 where
   pub bytes : List ℕ
   pub current : (b (10 + page)).current ≡ Some bytes
+  pub holds : HoldsPage bytes records changes page
+
+-- the block of a page has its image as its one outcome
+pub record KeepsPage (b : ℕ → BlockState) (records : ℕ → Option (List ℕ)) (changes : ℕ → ℕ) (page : ℕ) : Type 0 where
+  pub bytes : List ℕ
+  pub stays : Holds b (10 + page) (Some bytes)
   pub holds : HoldsPage bytes records changes page
 
 -- an open store: block 0 is a super, and each data page is shown

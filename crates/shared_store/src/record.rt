@@ -2,8 +2,8 @@ ghost use Rattle.std.specs.Prelude.{◌≡◌, ◌≤◌, ◌+◌, ◌%◌, ℕ,
 ghost use Rattle.sd_base.specs.Calls.{Keeps, Narrows, NoNewWriter};
 ghost use Rattle.shared_store.specs.Command.{IsKey};
 ghost use Rattle.shared_store.specs.Device.{IsQuiet};
-ghost use Rattle.shared_store.specs.Records.{page_of, opened, after, AnswersGet, AnswersPut};
-ghost use Rattle.shared_store.specs.Tie.{Shows, ShowsOpen, HasCause, is_stop};
+ghost use Rattle.shared_store.specs.Records.{page_of, opened, after, with_record, with_change, AnswersGet, AnswersPut};
+ghost use Rattle.shared_store.specs.Tie.{Shows, ShowsOpen, KeepsPage, HasCause, is_stop};
 ghost use Rattle.shared_store.specs.ReadPage.{IsDataPage, HoldsImage};
 
 use crate::command::Command;
@@ -108,6 +108,9 @@ pub(crate) fn write_record<D: Disk>(disk: &mut D, key: Key, value: Value) -> Rep
     ensures shows { IsTrue D.told → (size : ℕ) (records : ℕ → Option (List ℕ)) (changes : ℕ → ℕ)
         → ShowsOpen size (D.state disk.old).block records changes
         → Shows (not (is_stop result)) size (D.state disk.new).block (after (opened records changes) (Command.Put key value) result) }
+    ensures kept { IsTrue D.told → result ≡ Reply.Fine → (size : ℕ) (records : ℕ → Option (List ℕ)) (changes : ℕ → ℕ)
+        → ShowsOpen size (D.state disk.old).block records changes
+        → KeepsPage (D.state disk.new).block (with_record key.0 value records) (with_change (page_of key.0) changes) (page_of key.0) }
 {
     let page = page_of(key);
     let mut block = [0; 4096];
