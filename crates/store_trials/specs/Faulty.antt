@@ -1,6 +1,6 @@
 -- What a device of trials means, but for its blocks, of which it tells nothing.
-use Rattle.std.specs.Prelude.{ℕ, Bool, false, List, [], None, nat_lt, slice_index, slice_index_or}
-use Rattle.sd_base.specs.Disk.{BlockState, DiskState}
+use Rattle.std.specs.Prelude.{◌≡◌, ℕ, Bool, false, List, [], None, nat_lt, slice_index, slice_index_or}
+use Rattle.sd_base.specs.Disk.{BlockState, DiskState, IsPort}
 
 -- a block of which nothing is told
 abbrev pub untold_block : ℕ → BlockState
@@ -28,3 +28,11 @@ faulty_state size live faults cuts orders = record {
   cuts = counts_at cuts;
   orders = orders;
 }
+
+-- no port was used yet
+pub record IsUnused (blocks : ℕ) (s : DiskState) : Type 0 where
+  pub size : s.size ≡ blocks
+  pub live : (n : ℕ) → IsPort n → s.live n ≡ false
+  pub faults : (n : ℕ) → s.faults n ≡ 0
+  pub cuts : (n : ℕ) → s.cuts n ≡ 0
+  pub orders : s.orders ≡ 0

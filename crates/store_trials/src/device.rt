@@ -2,7 +2,7 @@ ghost use Rattle.std.specs.Prelude.{◌≡◌, ◌<◌, true, false, length, IfO
 ghost use Rattle.sd_base.specs.Disk.{IsPort};
 ghost use Rattle.sd_base.specs.Calls.{Keeps};
 ghost use Rattle.sd_base.specs.Answers.{WriteCause};
-ghost use Rattle.store_trials.specs.Faulty.{faulty_state};
+ghost use Rattle.store_trials.specs.Faulty.{faulty_state, IsUnused};
 
 use sd_base::{Block, BlockNo, Disk, NodeId, ReadAnswer, WriteAnswer};
 use std::alloc::{AllocError, Global};
@@ -43,8 +43,10 @@ pub struct FaultyDisk {
 }
 
 impl FaultyDisk {
-    /// A device of zero blocks.
-    pub fn new(alloc: Global, size: u32, wrong: Faults) -> Result<FaultyDisk, AllocError> {
+    /// A device of zero blocks, on which no port is live.
+    pub fn new(alloc: Global, size: u32, wrong: Faults) -> Result<FaultyDisk, AllocError>
+        ensures { IfOk result (λ d. IsUnused size (⟦<FaultyDisk as Disk>⟧.state d)) }
+    {
         Ok(FaultyDisk {
             size,
             blocks: zero_blocks(alloc, size)?,

@@ -4,11 +4,17 @@
 //! its tests show what no contract says. Nothing stands on this crate.
 #![tactic(auto)]
 
+mod client;
+mod cut;
 mod device;
 mod streams;
 
+pub use client::write_in_order;
+pub use cut::CutDisk;
 pub use device::{Faults, FaultyDisk};
 pub use streams::{Script, Transcript};
 
+#[cfg(test)]
+mod client_tests;
 #[cfg(test)]
 mod tests;
