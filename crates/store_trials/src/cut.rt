@@ -1,5 +1,7 @@
-ghost use Rattle.std.specs.Prelude.{◌≡◌, ◌≢◌, ◌+◌, ◌-◌, ◌^◌, ℕ, min, replicate};
-ghost use Rattle.sd_base.specs.Disk.{IsPort};
+ghost use Rattle.std.specs.Prelude.{◌≡◌, ◌≢◌, ◌↔◌, ◌+◌, ◌-◌, ◌^◌, ℕ, true, IsTrue, min, replicate};
+ghost use Rattle.sd_base.specs.Disk.{IsPort, IsFreeFor};
+ghost use Rattle.sd_base.specs.Calls.{Keeps, Narrows, NarrowsBut, NoNewWriter, NoNewWriterBut, KeepsForeign, KeepsForeignBut, Writes, CutsWrite, Covers, Settles};
+ghost use Rattle.sd_base.specs.Answers.{ReadCause, WriteCause, Reads, OnWrite};
 ghost use Rattle.store_trials.specs.Cut.{cut_state};
 ghost use Rattle.store_trials.specs.Faulty.{counts_at};
 
@@ -23,7 +25,8 @@ pub struct CutDisk<D> {
 impl<D: Disk> CutDisk<D> {
     /// A device over this one. The reads, writes and barriers count from here on.
     pub fn new(disk: D, stop_at: u64, picks: u64) -> CutDisk<D>
-        ensures { ⟦<CutDisk<D> as Disk>⟧.state result ≡ cut_state (D.state disk) (replicate 17 0) }
+        ensures state { ⟦<CutDisk<D> as Disk>⟧.state result ≡ cut_state (D.state disk) (replicate 17 0) }
+        ensures plan { (result.stop_at ≡ stop_at) × (result.picks ≡ picks) × (result.calls ≡ 0) }
     {
         CutDisk {
             disk,
@@ -38,6 +41,9 @@ impl<D: Disk> CutDisk<D> {
     fn is_cut(&mut self) -> bool
         ensures disk { self.new.disk ≡ self.old.disk }
         ensures cuts { self.new.cuts ≡ self.old.cuts }
+        ensures turn { IsTrue result ↔ self.new.calls ≡ self.old.stop_at }
+        ensures count { self.new.calls ≡ min (self.old.calls + 1) (2 ^ 64 - 1) }
+        ensures plan { (self.new.stop_at ≡ self.old.stop_at) × (self.new.picks ≡ self.old.picks) }
     {
         self.calls = self.calls.saturating_add(1);
         self.calls == self.stop_at
@@ -49,6 +55,7 @@ impl<D: Disk> CutDisk<D> {
         ensures disk { self.new.disk ≡ self.old.disk }
         ensures here { counts_at self.new.cuts n.0 ≡ min (counts_at self.old.cuts n.0 + 1) (2 ^ 64 - 1) }
         ensures others { (m : ℕ) → m ≢ n.0 → counts_at self.new.cuts m ≡ counts_at self.old.cuts m }
+        ensures plan { (self.new.stop_at ≡ self.old.stop_at) × (self.new.picks ≡ self.old.picks) × (self.new.calls ≡ self.old.calls) }
     {
         let port = n.0 as usize;
         self.cuts[port] = self.cuts[port].saturating_add(1);
@@ -72,7 +79,22 @@ impl<D: Disk> Disk for CutDisk<D> {
         self.disk.is_live(n)
     }
 
-    fn read(&mut self, n: NodeId, at: BlockNo, out: &mut Block) -> ReadAnswer {
+    fn read(&mut self, n: NodeId, at: BlockNo, out: &mut Block) -> ReadAnswer
+        requires port { IsPort n.0 }
+        requires live { (D.state self.old.disk).live n.0 ≡ true }
+        requires reach { (D.state self.old.disk).reach at.0 ≡ true }
+        ensures keeps { Keeps n.0 (cut_state (D.state self.old.disk) self.old.cuts) (cut_state (D.state self.new.disk) self.new.cuts) }
+        ensures cause { ReadCause result n.0 (cut_state (D.state self.old.disk) self.old.cuts) (cut_state (D.state self.new.disk) self.new.cuts) }
+        ensures outcomes { IsTrue D.told → Narrows (D.state self.old.disk).block (D.state self.new.disk).block }
+        ensures writers { IsTrue D.told → NoNewWriter (D.state self.old.disk).block (D.state self.new.disk).block }
+        ensures foreign { IsTrue D.told → KeepsForeign n.0 (D.state self.old.disk).block (D.state self.new.disk).block }
+        ensures blocks { IsTrue D.told → Reads result n.0 at.0 out.new (D.state self.old.disk).block (D.state self.new.disk).block }
+
+        // The call that is to be stopped is stopped.
+        ensures turn { self.new.calls ≡ self.old.stop_at → result ≡ ReadAnswer.Stopped }
+        ensures count { self.new.calls ≡ min (self.old.calls + 1) (2 ^ 64 - 1) }
+        ensures plan { (self.new.stop_at ≡ self.old.stop_at) × (self.new.picks ≡ self.old.picks) }
+    {
         if self.is_cut() {
             self.disk.stop(n, self.picks);
             self.count_cut(n);
@@ -81,7 +103,25 @@ impl<D: Disk> Disk for CutDisk<D> {
         self.disk.read(n, at, out)
     }
 
-    fn write(&mut self, n: NodeId, at: BlockNo, content: &Block) -> WriteAnswer {
+    fn write(&mut self, n: NodeId, at: BlockNo, content: &Block) -> WriteAnswer
+        requires port { IsPort n.0 }
+        requires live { (D.state self.old.disk).live n.0 ≡ true }
+        requires reach { (D.state self.old.disk).reach at.0 ≡ true }
+        requires free { IsTrue D.told → IsFreeFor n.0 ((D.state self.old.disk).block at.0) }
+        ensures keeps { Keeps n.0 (cut_state (D.state self.old.disk) self.old.cuts) (cut_state (D.state self.new.disk) self.new.cuts) }
+        ensures cause { WriteCause result n.0 (cut_state (D.state self.old.disk) self.old.cuts) (cut_state (D.state self.new.disk) self.new.cuts) }
+        ensures outcomes { IsTrue D.told → NarrowsBut at.0 content.now (D.state self.old.disk).block (D.state self.new.disk).block }
+        ensures writers { IsTrue D.told → NoNewWriterBut at.0 n.0 (D.state self.old.disk).block (D.state self.new.disk).block }
+        ensures foreign { IsTrue D.told → KeepsForeignBut at.0 n.0 (D.state self.old.disk).block (D.state self.new.disk).block }
+        ensures blocks { IsTrue D.told → OnWrite result
+            (Writes n.0 at.0 content.now (D.state self.old.disk).block (D.state self.new.disk).block)
+            (CutsWrite n.0 at.0 (D.state self.old.disk).block (D.state self.new.disk).block) }
+
+        // The call that is to be stopped is stopped.
+        ensures turn { self.new.calls ≡ self.old.stop_at → result ≡ WriteAnswer.Stopped }
+        ensures count { self.new.calls ≡ min (self.old.calls + 1) (2 ^ 64 - 1) }
+        ensures plan { (self.new.stop_at ≡ self.old.stop_at) × (self.new.picks ≡ self.old.picks) }
+    {
         let is_cut = self.is_cut();
         let answer = self.disk.write(n, at, content);
         if is_cut {
@@ -92,7 +132,23 @@ impl<D: Disk> Disk for CutDisk<D> {
         answer
     }
 
-    fn barrier(&mut self, n: NodeId) -> WriteAnswer {
+    fn barrier(&mut self, n: NodeId) -> WriteAnswer
+        requires port { IsPort n.0 }
+        requires live { (D.state self.old.disk).live n.0 ≡ true }
+        ensures keeps { Keeps n.0 (cut_state (D.state self.old.disk) self.old.cuts) (cut_state (D.state self.new.disk) self.new.cuts) }
+        ensures cause { WriteCause result n.0 (cut_state (D.state self.old.disk) self.old.cuts) (cut_state (D.state self.new.disk) self.new.cuts) }
+        ensures outcomes { IsTrue D.told → Narrows (D.state self.old.disk).block (D.state self.new.disk).block }
+        ensures writers { IsTrue D.told → NoNewWriter (D.state self.old.disk).block (D.state self.new.disk).block }
+        ensures foreign { IsTrue D.told → KeepsForeign n.0 (D.state self.old.disk).block (D.state self.new.disk).block }
+        ensures blocks { IsTrue D.told → OnWrite result
+            (Covers n.0 (D.state self.old.disk).block (D.state self.new.disk).block)
+            (Settles n.0 (D.state self.old.disk).block (D.state self.new.disk).block) }
+
+        // The call that is to be stopped is stopped.
+        ensures turn { self.new.calls ≡ self.old.stop_at → result ≡ WriteAnswer.Stopped }
+        ensures count { self.new.calls ≡ min (self.old.calls + 1) (2 ^ 64 - 1) }
+        ensures plan { (self.new.stop_at ≡ self.old.stop_at) × (self.new.picks ≡ self.old.picks) }
+    {
         if self.is_cut() {
             self.disk.stop(n, self.picks);
             self.count_cut(n);
