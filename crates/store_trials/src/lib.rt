@@ -1,7 +1,8 @@
 //! Scripts tried out over sources, sinks and devices in memory that fail where they are told to.
 //!
 //! Its types meet the traits that the store stands on, so what is proved of the store holds over them;
-//! its tests show what no contract says. Nothing stands on this crate.
+//! its tests show what no contract says. A client of two writes (`write_in_order`) shows what can be
+//! promised over any device. Nothing stands on this crate.
 #![tactic(auto)]
 
 mod client;
