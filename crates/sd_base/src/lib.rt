@@ -11,6 +11,7 @@
 mod anchors;
 mod device;
 mod fault;
+mod laws;
 mod names;
 mod page_header;
 mod page_op;
@@ -23,6 +24,10 @@ mod value;
 pub use anchors::{MAX_ANCHOR, parse_anchor, write_anchor};
 pub use device::{Block, BlockNo, Disk, NodeId, ReadAnswer, WriteAnswer};
 pub use fault::DevFault;
+pub use laws::{
+    law_of_covered_devices, law_of_foreign_blocks, law_of_free_blocks, law_of_outcomes,
+    law_of_two_calls,
+};
 pub use names::{Key, PageNo};
 pub use page_header::{MAX_IDENT, page_ident, page_number, put_page_ident, write_page_header};
 pub use page_op::PageOp;

@@ -1,6 +1,10 @@
 -- What a device of trials means, but for its blocks, of which it tells nothing.
-use Rattle.std.specs.Prelude.{ℕ, Bool, false, List, [], None, nat_lt, slice_index, slice_index_or}
-use Rattle.sd_base.specs.Disk.{BlockState, DiskState}
+use Rattle.std.specs.Prelude.{◌≡◌, ◌≢◌, ◌⊎◌, ℕ, Bool, false, List, [], None, nat_lt, slice_index, slice_index_or}
+use Rattle.sd_base.specs.Disk.{BlockState, DiskState, IsPort}
+use Rattle.sd_base.specs.declared.device.ReadAnswer.{ReadAnswer}
+use Rattle.sd_base.specs.declared.device.WriteAnswer.{WriteAnswer}
+use Rattle.sd_base.specs.declared.device.ReadAnswer.TheVariants as read
+use Rattle.sd_base.specs.declared.device.WriteAnswer.TheVariants as write
 
 -- a block of which nothing is told
 abbrev pub untold_block : ℕ → BlockState
@@ -28,3 +32,23 @@ faulty_state size live faults cuts orders = record {
   cuts = counts_at cuts;
   orders = orders;
 }
+
+-- no port was used yet
+pub record IsUnused (blocks : ℕ) (s : DiskState) : Type 0 where
+  pub size : s.size ≡ blocks
+  pub live : (n : ℕ) → IsPort n → s.live n ≡ false
+  pub faults : (n : ℕ) → s.faults n ≡ 0
+  pub cuts : (n : ℕ) → s.cuts n ≡ 0
+  pub orders : s.orders ≡ 0
+
+-- the call of this number is stopped or fails where its turn has come, first of all stopped, and is done elsewhere
+pub record IsAnswerOf (call stop_at fail_at : ℕ) (answer : WriteAnswer) : Type 0 where
+  pub stopped : call ≡ stop_at → answer ≡ write.Stopped
+  pub failed : call ≢ stop_at → call ≡ fail_at → answer ≡ write.Failed
+  pub done : call ≢ stop_at → call ≢ fail_at → answer ≡ write.Done
+
+-- the same of a read, which may also meet a lost block
+pub record IsReadAnswerOf (call stop_at fail_at : ℕ) (answer : ReadAnswer) : Type 0 where
+  pub stopped : call ≡ stop_at → answer ≡ read.Stopped
+  pub failed : call ≢ stop_at → call ≡ fail_at → answer ≡ read.Failed
+  pub done : call ≢ stop_at → call ≢ fail_at → (answer ≡ read.Done) ⊎ (answer ≡ read.Lost)

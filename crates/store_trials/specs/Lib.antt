@@ -1,1 +1,3 @@
+pub mod Cut
 pub mod Faulty
+pub mod Client

@@ -1,8 +1,8 @@
-ghost use Rattle.std.specs.Prelude.{◌≡◌, ◌<◌, true, false, length, IfOk};
+ghost use Rattle.std.specs.Prelude.{◌≡◌, ◌<◌, ◌+◌, ◌-◌, ◌^◌, true, false, length, min, IfOk};
 ghost use Rattle.sd_base.specs.Disk.{IsPort};
 ghost use Rattle.sd_base.specs.Calls.{Keeps};
-ghost use Rattle.sd_base.specs.Answers.{WriteCause};
-ghost use Rattle.store_trials.specs.Faulty.{faulty_state};
+ghost use Rattle.sd_base.specs.Answers.{ReadCause, WriteCause};
+ghost use Rattle.store_trials.specs.Faulty.{faulty_state, IsUnused, IsAnswerOf, IsReadAnswerOf};
 
 use sd_base::{Block, BlockNo, Disk, NodeId, ReadAnswer, WriteAnswer};
 use std::alloc::{AllocError, Global};
@@ -43,8 +43,11 @@ pub struct FaultyDisk {
 }
 
 impl FaultyDisk {
-    /// A device of zero blocks.
-    pub fn new(alloc: Global, size: u32, wrong: Faults) -> Result<FaultyDisk, AllocError> {
+    /// A device of zero blocks, on which no port is live.
+    pub fn new(alloc: Global, size: u32, wrong: Faults) -> Result<FaultyDisk, AllocError>
+        ensures state { IfOk result (λ d. IsUnused size (⟦<FaultyDisk as Disk>⟧.state d)) }
+        ensures plan { IfOk result (λ d. (d.wrong ≡ wrong) × (d.calls ≡ 0)) }
+    {
         Ok(FaultyDisk {
             size,
             blocks: zero_blocks(alloc, size)?,
@@ -63,6 +66,9 @@ impl FaultyDisk {
         requires live { (⟦<FaultyDisk as Disk>⟧.state self.old).live n.0 ≡ true }
         ensures keeps { Keeps n.0 (⟦<FaultyDisk as Disk>⟧.state self.old) (⟦<FaultyDisk as Disk>⟧.state self.new) }
         ensures cause { WriteCause result n.0 (⟦<FaultyDisk as Disk>⟧.state self.old) (⟦<FaultyDisk as Disk>⟧.state self.new) }
+        ensures count { self.new.calls ≡ min (self.old.calls + 1) (2 ^ 64 - 1) }
+        ensures turn { IsAnswerOf self.new.calls self.old.wrong.stop_at self.old.wrong.fail_at result }
+        ensures plan { self.new.wrong ≡ self.old.wrong }
     {
         let port = n.0 as usize;
         self.calls = self.calls.saturating_add(1);
@@ -129,7 +135,18 @@ impl Disk for FaultyDisk {
         self.live[n.0 as usize]
     }
 
-    fn read(&mut self, n: NodeId, at: BlockNo, out: &mut Block) -> ReadAnswer {
+    fn read(&mut self, n: NodeId, at: BlockNo, out: &mut Block) -> ReadAnswer
+        requires port { IsPort n.0 }
+        requires live { (⟦<FaultyDisk as Disk>⟧.state self.old).live n.0 ≡ true }
+        requires reach { (⟦<FaultyDisk as Disk>⟧.state self.old).reach at.0 ≡ true }
+        ensures keeps { Keeps n.0 (⟦<FaultyDisk as Disk>⟧.state self.old) (⟦<FaultyDisk as Disk>⟧.state self.new) }
+        ensures cause { ReadCause result n.0 (⟦<FaultyDisk as Disk>⟧.state self.old) (⟦<FaultyDisk as Disk>⟧.state self.new) }
+
+        // It ends as the plan has it.
+        ensures count { self.new.calls ≡ min (self.old.calls + 1) (2 ^ 64 - 1) }
+        ensures turn { IsReadAnswerOf self.new.calls self.old.wrong.stop_at self.old.wrong.fail_at result }
+        ensures plan { self.new.wrong ≡ self.old.wrong }
+    {
         match self.answer(n) {
             WriteAnswer::Done => {}
             WriteAnswer::Stopped => return ReadAnswer::Stopped,
@@ -142,7 +159,18 @@ impl Disk for FaultyDisk {
         }
     }
 
-    fn write(&mut self, n: NodeId, at: BlockNo, content: &Block) -> WriteAnswer {
+    fn write(&mut self, n: NodeId, at: BlockNo, content: &Block) -> WriteAnswer
+        requires port { IsPort n.0 }
+        requires live { (⟦<FaultyDisk as Disk>⟧.state self.old).live n.0 ≡ true }
+        requires reach { (⟦<FaultyDisk as Disk>⟧.state self.old).reach at.0 ≡ true }
+        ensures keeps { Keeps n.0 (⟦<FaultyDisk as Disk>⟧.state self.old) (⟦<FaultyDisk as Disk>⟧.state self.new) }
+        ensures cause { WriteCause result n.0 (⟦<FaultyDisk as Disk>⟧.state self.old) (⟦<FaultyDisk as Disk>⟧.state self.new) }
+
+        // It ends as the plan has it.
+        ensures count { self.new.calls ≡ min (self.old.calls + 1) (2 ^ 64 - 1) }
+        ensures turn { IsAnswerOf self.new.calls self.old.wrong.stop_at self.old.wrong.fail_at result }
+        ensures plan { self.new.wrong ≡ self.old.wrong }
+    {
         let answer = self.answer(n);
         if answer == WriteAnswer::Done {
             self.blocks[at.0 as usize] = *content;
@@ -150,7 +178,17 @@ impl Disk for FaultyDisk {
         answer
     }
 
-    fn barrier(&mut self, n: NodeId) -> WriteAnswer {
+    fn barrier(&mut self, n: NodeId) -> WriteAnswer
+        requires port { IsPort n.0 }
+        requires live { (⟦<FaultyDisk as Disk>⟧.state self.old).live n.0 ≡ true }
+        ensures keeps { Keeps n.0 (⟦<FaultyDisk as Disk>⟧.state self.old) (⟦<FaultyDisk as Disk>⟧.state self.new) }
+        ensures cause { WriteCause result n.0 (⟦<FaultyDisk as Disk>⟧.state self.old) (⟦<FaultyDisk as Disk>⟧.state self.new) }
+
+        // It ends as the plan has it.
+        ensures count { self.new.calls ≡ min (self.old.calls + 1) (2 ^ 64 - 1) }
+        ensures turn { IsAnswerOf self.new.calls self.old.wrong.stop_at self.old.wrong.fail_at result }
+        ensures plan { self.new.wrong ≡ self.old.wrong }
+    {
         self.answer(n)
     }
 

@@ -22,6 +22,7 @@ impl<'a> Script<'a> {
         requires { 0 < piece }
         ensures left { (⟦<Script<'a> as Source>⟧.state result).left ≡ bytes.now }
         ensures given { (⟦<Script<'a> as Source>⟧.state result).given ≡ 0 }
+        ensures faults { (⟦<Script<'a> as Source>⟧.state result).faults ≡ 0 }
     {
         Script {
             left: bytes,
@@ -79,7 +80,9 @@ impl Transcript {
         failing_writes: &'static [u64],
         failing_flushes: &'static [u64],
     ) -> Transcript
-        ensures { (⟦<Transcript as Sink>⟧.state result).taken ≡ [] }
+        ensures taken { (⟦<Transcript as Sink>⟧.state result).taken ≡ [] }
+        ensures flushed { (⟦<Transcript as Sink>⟧.state result).flushed ≡ 0 }
+        ensures faults { (⟦<Transcript as Sink>⟧.state result).faults ≡ 0 }
     {
         Transcript {
             taken: Vec::new(alloc),
