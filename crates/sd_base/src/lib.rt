@@ -21,7 +21,7 @@ mod value;
 
 pub use device::{Block, BlockNo, Disk, NodeId, ReadAnswer, WriteAnswer};
 pub use fault::DevFault;
-pub use names::{Key, PageNo};
+pub use names::{GroupNo, Key, PageNo};
 pub use page_header::{MAX_IDENT, page_ident, page_number, put_page_ident, write_page_header};
 pub use page_op::PageOp;
 pub use shape::Shape;
