@@ -1,5 +1,5 @@
 -- Bytes of a text, at the place of a field and beside it.
-use Rattle.std.proofs.Common.{◌≡◌, ◌≤◌, ◌<◌, ◌+◌, ℕ, List, [], ◌∷◌, length, take, drop, get_or, refl, sym, ap, ◌∙◌, arith, rules}
+use Rattle.std.proofs.Common.{◌≡◌, ◌≤◌, ◌<◌, ◌+◌, ℕ, List, [], ◌∷◌, length, get_or, refl, sym, ap, ◌∙◌, arith, rules}
 use Rattle.std.proofs.lemmas.List.{same_lists, places}
 use Rattle.sd_base.specs.Text.{put, Field, bytes_field, with_fields}
 use Rattle.sd_base.proofs.TextLaws.{length-put, StandBehind}

@@ -1,12 +1,12 @@
 -- Records and their fields, both ways.
-use Rattle.std.proofs.Common.{◌≡◌, ◌≤◌, ◌<◌, ◌+◌, ◌^◌, ℕ, Bool, true, false, Option, Some, None, List, [], ◌∷◌, length, take, min, replicate, refl, sym, ◌∙◌, ap, subst, arith}
+use Rattle.std.proofs.Common.{◌≡◌, ◌<◌, ◌^◌, ℕ, Bool, true, false, Option, Some, None, List, length, take, min, refl, sym, ◌∙◌, ap, subst, arith}
 use Rattle.sd_base.specs.Text.{put}
 use Rattle.sd_base.proofs.TextLaws.{length-put}
 use Rattle.log_record.specs.declared.fields.Fields.{Fields}
 use Rattle.log_record.specs.declared.record.LogRecord.{LogRecord}
 use Rattle.log_record.specs.declared.record.LogRecord.TheVariants.{Begin, Set, Append, Commit, Abort, Restore, Cut, MapUse, MapFree}
-use Rattle.log_record.specs.Fields.{no_value, half_of, half_of_value, half_of_mark, fields_of}
-use Rattle.log_record.specs.Legal.{IsValue, IsContent, HasExtra, HasContents, IsLegal}
+use Rattle.log_record.specs.Fields.{no_value, half_of, half_of_mark, fields_of}
+use Rattle.log_record.specs.Legal.{IsContent, HasExtra, HasContents, IsLegal}
 use Rattle.log_record.specs.Text.{record_text}
 use Rattle.log_record.specs.Reading.{HasFields, content_in, present_in, record_in}
 use Rattle.log_record.proofs.FieldLaws.{bytes_at-here}

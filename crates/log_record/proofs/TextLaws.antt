@@ -2,7 +2,6 @@
 use Rattle.std.proofs.Common.{◌≡◌, ◌≤◌, ◌<◌, ◌+◌, ◌^◌, ℕ, List, [], ◌∷◌, length, replicate, refl, sym, ◌∙◌, arith}
 use Rattle.sd_base.specs.Text.{put, Field, bytes_field, number_field, with_fields}
 use Rattle.sd_base.proofs.TextLaws.{length-big_bytes, length-put, number_at-field, StandBehind}
-use Rattle.log_record.specs.declared.fields.Half.{Half}
 use Rattle.log_record.specs.declared.fields.Fields.{Fields}
 use Rattle.log_record.specs.Text.{fields_text}
 use Rattle.log_record.specs.Reading.{HasFields}
