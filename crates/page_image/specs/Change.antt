@@ -1,14 +1,24 @@
 -- What a change does to a data page.
-use Rattle.std.specs.Prelude.{◌+◌, ◌++◌, ℕ, Bool, true, false, List, [], Option, Some, None, take, unwrap_or, slice_index_or, slice_set}
+use Rattle.std.specs.Prelude.{◌+◌, ◌++◌, ℕ, ⊤, Bool, true, false, List, [], Option, Some, None, take, unwrap_or, slice_index_or, slice_set}
 use Rattle.sd_base.specs.declared.page_op.PageOp.{PageOp}
-use Rattle.sd_base.specs.declared.page_op.PageOp.TheVariants.{Put, Append, Cut}
+use Rattle.sd_base.specs.declared.page_op.PageOp.TheVariants.{Put, Append, Cut, MapUse, MapFree}
 use Rattle.page_image.specs.declared.page_view.PageView.{PageView}
+
+-- a change of a slot, and not of a map entry
+abbrev pub IsSlotOp : PageOp → Type 0
+IsSlotOp (Put slot after) = ⊤
+IsSlotOp (Append slot bytes) = ⊤
+IsSlotOp (Cut slot present len) = ⊤
+IsSlotOp (MapUse place group) = ⊥
+IsSlotOp (MapFree place ident) = ⊥
 
 -- the slot that a change writes
 abbrev pub slot_of : PageOp → ℕ
 slot_of (Put slot after) = slot
 slot_of (Append slot bytes) = slot
 slot_of (Cut slot present len) = slot
+slot_of (MapUse place group) = 0
+slot_of (MapFree place ident) = 0
 
 -- the value in a slot of the page, where an absent one counts as empty
 abbrev pub value_in : PageView → ℕ → List ℕ
@@ -32,3 +42,5 @@ abbrev pub applied : PageOp → PageView → PageView
 applied (Put slot after) v = with_put slot after v
 applied (Append slot bytes) v = with_append slot bytes v
 applied (Cut slot present len) v = with_cut slot present len v
+applied (MapUse place group) v = v
+applied (MapFree place ident) v = v

@@ -1,7 +1,7 @@
 ghost use Rattle.std.specs.Prelude.{◌≡◌, ◌+◌, ◌^◌, ◌≤◌, ◌<◌};
 ghost use Rattle.page_image.specs.declared.page_view.PageView.{PageView};
 ghost use Rattle.page_image.specs.Image.{IsTextOf};
-ghost use Rattle.page_image.specs.Change.{slot_of, value_in, applied, with_put, with_append, with_cut};
+ghost use Rattle.page_image.specs.Change.{IsSlotOp, slot_of, value_in, applied, with_put, with_append, with_cut};
 
 use crate::image::slot;
 use crate::slots::write_slot;
@@ -12,6 +12,7 @@ use sd_base::{Block, PageOp, Value, page_ident, put_page_ident};
 /// The format is in docs/FORMATS.md.
 pub fn apply(b: &mut Block, op: &PageOp)
     requires image { (v : PageView) × IsTextOf v b.old × (v.ident < 2 ^ 63 + 2 ^ 40) }
+    requires kind { IsSlotOp op.now }
     requires slot { slot_of op.now ≤ 15 }
     ensures { (v : PageView) → IsTextOf v b.old → IsTextOf (applied op.now v) b.new }
 {
@@ -19,6 +20,7 @@ pub fn apply(b: &mut Block, op: &PageOp)
         PageOp::Put { slot, after } => apply_put(b, *slot, after),
         PageOp::Append { slot, bytes } => apply_append(b, *slot, bytes),
         PageOp::Cut { slot, present, len } => apply_cut(b, *slot, *present, *len),
+        PageOp::MapUse { .. } | PageOp::MapFree { .. } => unreachable!(),
     }
 }
 

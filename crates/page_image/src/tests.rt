@@ -1,5 +1,5 @@
 ghost use Rattle.std.specs.Prelude.{◌≤◌};
-ghost use Rattle.page_image.specs.Change.{slot_of};
+ghost use Rattle.page_image.specs.Change.{IsSlotOp, slot_of};
 
 use super::*;
 use sd_base::{PageNo, PageOp, Value};
@@ -95,7 +95,8 @@ fn page_with(content: Option<&[u8]>) -> PageView {
 
 // What is read of page 9, with this in slot 5, after a change.
 fn changed(content: Option<&[u8]>, op: &PageOp) -> Option<PageView>
-    requires { slot_of op.now ≤ 15 }
+    requires kind { IsSlotOp op.now }
+    requires slot { slot_of op.now ≤ 15 }
 {
     let mut page = [0; 4096];
     write_birth(PageNo(9), 40, &mut page);

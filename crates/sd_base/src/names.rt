@@ -5,3 +5,7 @@ pub struct PageNo(pub u32);
 /// The key of a record.
 #[derive(Clone, Copy, Debug, PartialEq, Eq, PartialOrd, Ord)]
 pub struct Key(pub u32);
+
+/// The number of a group of records, at most 268,435,455: those of sixteen keys in a row.
+#[derive(Clone, Copy, Debug, PartialEq, Eq, PartialOrd, Ord)]
+pub struct GroupNo(pub u32);

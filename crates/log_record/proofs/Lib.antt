@@ -1,0 +1,3 @@
+mod FieldLaws
+mod TextLaws
+mod RecordLaws

@@ -1,0 +1,5 @@
+pub mod Record
+pub mod Fields
+pub mod Legal
+pub mod Text
+pub mod Reading
