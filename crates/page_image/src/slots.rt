@@ -37,15 +37,6 @@ pub fn slots_at(b: &Block) -> [Option<Value>; 16]
     slots
 }
 
-/// Puts the bytes of a value into the bytes of a slot.
-#[tactic(auto, unfolding(sd_base::specs::Text::put))]
-fn put_value(out: &mut [u8; 252], bytes: &[u8])
-    requires { length bytes.now ≤ 248 }
-    ensures { out.new ≡ put 4 bytes.now out.old }
-{
-    out[4..4 + bytes.len()].copy_from_slice(bytes);
-}
-
 /// The bytes of a slot that holds a value.
 fn present_bytes(value: &Value) -> [u8; 252]
     ensures text { result ≡ slot_text (Some value.now) }
@@ -55,7 +46,7 @@ fn present_bytes(value: &Value) -> [u8; 252]
     let bytes = value.as_slice();
     text[0] = 1;
     text[1] = bytes.len() as u8;
-    put_value(&mut text, bytes);
+    put_bytes(&mut text, 4, bytes);
     text
 }
 

@@ -1,6 +1,6 @@
 ghost use Rattle.std.specs.Prelude.{◌≡◌, ◌+◌, ◌<◌, ◌≤◌, ◌↔◌, [], ◌++◌, length, take, IsNone, IfSome};
-ghost use Rattle.sd_base.specs.Text.{put};
 
+use crate::text::put_bytes;
 use std::marker::Model;
 
 /// The value of a record: at most 248 bytes. A contract sees it as the list of its bytes.
@@ -26,23 +26,14 @@ impl Model for Value {
     ghost inverse_ok = { λ a h. λ i. record { len = (padded_is 248 a.len a.bytes h.0 h.1 h.2).0 i; bytes = (padded_is 248 a.len a.bytes h.0 h.1 h.2).1 i } };
 }
 
-/// Puts bytes into those of a value.
-#[tactic(auto, unfolding(crate::specs::Text::put))]
-fn put_part(out: &mut [u8; 248], at: usize, part: &[u8])
-    requires { at + length part.now ≤ 248 }
-    ensures { out.new ≡ put at part.now out.old }
-{
-    out[at..at + part.len()].copy_from_slice(part);
-}
-
 /// The value of the bytes of two parts.
 fn of_parts(front: &[u8], back: &[u8]) -> Value
     requires { length front.now + length back.now ≤ 248 }
     ensures { result ≡ front.now ++ back.now }
 {
     let mut bytes = [0; 248];
-    put_part(&mut bytes, 0, front);
-    put_part(&mut bytes, front.len(), back);
+    put_bytes(&mut bytes, 0, front);
+    put_bytes(&mut bytes, front.len(), back);
     Value {
         len: (front.len() + back.len()) as u8,
         bytes,

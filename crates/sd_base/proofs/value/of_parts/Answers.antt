@@ -10,7 +10,7 @@ invariant_of-result c =
     let back : List ℕ = c.args.back.now in
     let zeros : List ℕ = replicate (248 - length (front ++ back)) 0 in
     let long : length (front ++ back) ≡ length front + length back = length-append front back in
-    let made : c.put_part-2.new.out ≡ (front ++ back) ++ zeros = c.put_part-2.ensures ∙ ap (put (length front) back) c.put_part.ensures ∙ put-parts 248 front back c.requires in (
+    let made : c.put_bytes-2.new.out ≡ (front ++ back) ++ zeros = c.put_bytes-2.ensures ∙ ap (put (length front) back) c.put_bytes.ensures ∙ put-parts 248 front back c.requires in (
       c.requires,
       ap length made ∙ simp (length-append, length-replicate) (omega (arith, c.requires)),
       ap (drop (length front + length back)) made
@@ -22,6 +22,6 @@ pub returns : goal.returns
 returns c =
     let front : List ℕ = c.args.front.now in
     let back : List ℕ = c.args.back.now in
-    let made : c.put_part-2.new.out ≡ (front ++ back) ++ replicate (248 - length (front ++ back)) 0 = c.put_part-2.ensures ∙ ap (put (length front) back) c.put_part.ensures ∙ put-parts 248 front back c.requires in
+    let made : c.put_bytes-2.new.out ≡ (front ++ back) ++ replicate (248 - length (front ++ back)) 0 = c.put_bytes-2.ensures ∙ ap (put (length front) back) c.put_bytes.ensures ∙ put-parts 248 front back c.requires in
     ap (take (length front + length back)) made
     ∙ take_at (front ++ back) (replicate (248 - length (front ++ back)) 0) (length front + length back) (length-append front back)
