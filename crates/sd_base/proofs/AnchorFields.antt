@@ -1,5 +1,5 @@
 -- What is read of the text of an anchor.
-use Rattle.std.proofs.Common.{◌≡◌, ◌≤◌, ◌+◌, ◌^◌, ℕ, Bool, true, false, List, [], ◌∷◌, length, ◌∙◌, arith}
+use Rattle.std.proofs.Common.{◌≡◌, ℕ, Bool, true, false, List, [], ◌∷◌, length, ◌∙◌, arith}
 use Rattle.sd_base.specs.Text.{put, zero_block, number_at}
 use Rattle.sd_base.specs.Anchors.{anchor_magic, anchor_text, IsAnchorNumber}
 use Rattle.sd_base.proofs.TextLaws.{length-put, number_at-field}

@@ -1,5 +1,5 @@
 -- The text of an anchor.
-use Rattle.std.specs.Prelude.{◌≡◌, ◌≤◌, ◌^◌, ℕ, Bool, true, false, List, [], ◌∷◌, codes}
+use Rattle.std.specs.Prelude.{◌≤◌, ◌^◌, ℕ, Bool, true, false, List, [], ◌∷◌, codes}
 use Rattle.sd_base.specs.Text.{bytes_field, number_field, block_text}
 
 -- what an anchor begins with, on the vault and on the disk

@@ -37,7 +37,7 @@ one_way [] (b ∷ m) r s hl hm hr hs e = absurd (no_line r b (flat_map ended m +
 one_way (a ∷ l) [] r s hl hm hr hs e = absurd (no_line s a (flat_map ended l ++ r) hs (sym e ∙ append_assoc (ended a) (flat_map ended l) r))
 one_way (a ∷ l) (b ∷ m) r s hl hm hr hs e =
     let whole : ended a ++ (flat_map ended l ++ r) ≡ ended b ++ (flat_map ended m ++ s) =
-      sym (append_assoc (ended a) (flat_map ended l) r) ∙ e ∙ append_assoc (ended b) (flat_map ended m) s in
+    sym (append_assoc (ended a) (flat_map ended l) r) ∙ e ∙ append_assoc (ended b) (flat_map ended m) s in
     let heads = line_heads a b (flat_map ended l ++ r) (flat_map ended m ++ s) (hl 0 [] (omega arith)) (hm 0 [] (omega arith)) whole in
     let tails = one_way l m r s (tail_lines a l hl) (tail_lines b m hm) hr hs heads.1 in
     let first : a ≡ b = heads.0 in

@@ -13,8 +13,7 @@ pub(crate) const MAX_LINE: usize = 1024;
 pub fn law_of_one_splitting()
     ensures { (text : List ℕ) (lines others : List (List ℕ)) (rest other : List ℕ)
         → Splits text lines rest → Splits text others other → (lines ≡ others) × (rest ≡ other) }
-{
-}
+{}
 
 /// The line that is being read. Of a line that is too long its first bytes are kept, so a line of
 /// any length takes the same room.

@@ -1,4 +1,4 @@
-use Rattle.std.proofs.Common.{◌≡◌, Bool, List, ℕ, Some, sym, ap, ◌∙◌, rules}
+use Rattle.std.proofs.Common.{◌≡◌, Bool, List, ℕ, Some, ap, ◌∙◌, rules}
 use Rattle.sd_base.specs.Text.{number_at}
 use Rattle.sd_base.specs.Anchors.{anchor_text, IsAnchorNumber}
 use Rattle.sd_base.proofs.AnchorFields.{anchor_text-number}
