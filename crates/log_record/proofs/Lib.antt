@@ -1,3 +1,2 @@
-mod FieldLaws
 mod TextLaws
 mod RecordLaws

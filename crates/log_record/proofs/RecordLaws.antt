@@ -9,7 +9,7 @@ use Rattle.log_record.specs.Fields.{no_value, half_of, half_of_mark, fields_of}
 use Rattle.log_record.specs.Legal.{IsContent, HasExtra, HasContents, IsLegal}
 use Rattle.log_record.specs.Text.{record_text}
 use Rattle.log_record.specs.Reading.{HasFields, content_in, present_in, record_in}
-use Rattle.log_record.proofs.FieldLaws.{bytes_at-here}
+use Rattle.sd_base.proofs.FieldLaws.{bytes_at-here}
 use Rattle.log_record.proofs.TextLaws.{FitsText, fields_text-fields, HasFields-same}
 
 -- what a slot holds is read of its half

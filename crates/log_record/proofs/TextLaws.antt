@@ -5,7 +5,7 @@ use Rattle.sd_base.proofs.TextLaws.{length-big_bytes, length-put, number_at-fiel
 use Rattle.log_record.specs.declared.fields.Fields.{Fields}
 use Rattle.log_record.specs.Text.{fields_text}
 use Rattle.log_record.specs.Reading.{HasFields}
-use Rattle.log_record.proofs.FieldLaws.{bytes_at-field, byte-field}
+use Rattle.sd_base.proofs.FieldLaws.{bytes_at-field, byte-field}
 
 -- what stands at the places of a text is one
 pub HasFields-same : (f g : Fields) (text : List ℕ) → HasFields f text → HasFields g text → f ≡ g

@@ -1,16 +1,12 @@
 -- What is read in a text, whatever stands there.
-use Rattle.std.specs.Prelude.{◌≡◌, ◌==◌, ℕ, Bool, not, List, [], take, drop, min, slice_index, unwrap_or, Option, Some, None, if◌then◌else◌}
-use Rattle.sd_base.specs.Text.{number_at}
+use Rattle.std.specs.Prelude.{◌≡◌, ◌==◌, ℕ, Bool, not, List, [], take, min, slice_index, unwrap_or, Option, Some, None, if◌then◌else◌}
+use Rattle.sd_base.specs.Text.{number_at, bytes_at}
 use Rattle.sd_base.specs.declared.names.PageNo.{PageNo}
 use Rattle.sd_base.specs.declared.names.GroupNo.{GroupNo}
 use Rattle.log_record.specs.declared.fields.Half.{Half}
 use Rattle.log_record.specs.declared.fields.Fields.{Fields}
 use Rattle.log_record.specs.declared.record.LogRecord.{LogRecord}
 use Rattle.log_record.specs.declared.record.LogRecord.TheVariants.{Begin, Set, Append, Commit, Abort, Restore, Cut, MapUse, MapFree}
-
--- the n bytes at this place
-abbrev pub bytes_at : ℕ → ℕ → List ℕ → List ℕ
-bytes_at n at text = take n (drop at text)
 
 -- these fields stand at their places
 pub record HasFields (f : Fields) (text : List ℕ) : Type 0 where

@@ -1,5 +1,6 @@
 ghost use Rattle.std.specs.Prelude.{◌≡◌, ◌+◌, ◌≤◌};
-ghost use Rattle.log_record.specs.Reading.{bytes_at, HasFields, content_in, set_in, append_in, restore_in, cut_in, map_use_in, map_free_in, record_in};
+ghost use Rattle.sd_base.specs.Text.{bytes_at};
+ghost use Rattle.log_record.specs.Reading.{HasFields, content_in, set_in, append_in, restore_in, cut_in, map_use_in, map_free_in, record_in};
 
 use crate::fields::{Fields, Half};
 use crate::record::LogRecord;

@@ -1,7 +1,9 @@
 pub mod TextLaws
+pub mod Results
 pub mod PutLaws
+pub mod FieldLaws
 mod ValueLaws
 pub mod Rows
 pub mod PageLaws
 mod SuperFields
-mod AnchorFields
+pub mod AnchorFields

@@ -1,9 +1,9 @@
 -- Why a call that uses a device gave up.
-use Rattle.std.specs.Prelude.{ℕ, ◌≤◌}
+use Rattle.std.specs.Prelude.{◌≡◌, ◌≤◌, ℕ, List, Some, None, Result, Ok, Err}
 use Rattle.std.proofs.Common.{arith, inl, inr, subst, sym}
 use Rattle.std.proofs.lemmas.Bool.{cases_eq}
-use Rattle.sd_base.specs.Disk.{DiskState, Rose, Rose-after}
-use Rattle.sd_base.specs.Calls.{Keeps}
+use Rattle.sd_base.specs.Disk.{BlockState, DiskState, Rose, Rose-after}
+use Rattle.sd_base.specs.Calls.{Keeps, Settles}
 use Rattle.sd_base.specs.declared.fault.DevFault.{DevFault}
 use Rattle.sd_base.specs.declared.fault.DevFault.TheVariants.{Stopped, Failed, Lost, Damaged}
 
@@ -45,3 +45,33 @@ Caused-after (Stopped n) a b c g r = Rose-after (a.cuts n.0) (b.cuts n.0) (c.cut
 Caused-after (Failed n) a b c g r = Rose-after (a.faults n.0) (b.faults n.0) (c.faults n.0) (g.faults n.0) r
 Caused-after (Lost at) a b c g r = tt
 Caused-after (Damaged at) a b c g r = tt
+
+-- the port stopped or failed
+abbrev pub IsStopOf : ℕ → DevFault → Type 0
+IsStopOf port (Stopped n) = n.0 ≡ port
+IsStopOf port (Failed n) = n.0 ≡ port
+IsStopOf port (Lost at) = ⊥
+IsStopOf port (Damaged at) = ⊥
+
+-- why a read of this block through the port gives up
+abbrev pub IsReadFault : ℕ → ℕ → DevFault → Type 0
+IsReadFault port block (Stopped n) = n.0 ≡ port
+IsReadFault port block (Failed n) = n.0 ≡ port
+IsReadFault port block (Lost at) = at.0 ≡ block
+IsReadFault port block (Damaged at) = ⊥
+
+-- P where the port neither stopped nor failed
+abbrev pub StaysLive : {T : Type 0} → Result T DevFault → Type 0 → Type 0
+StaysLive (Ok x) P = P
+StaysLive (Err (Stopped n)) P = Unit {0}
+StaysLive (Err (Failed n)) P = Unit {0}
+StaysLive (Err (Lost at)) P = P
+StaysLive (Err (Damaged at)) P = P
+
+-- what a read says of the block and of the buffer: it changes no block unless the port stopped
+abbrev pub ReadsBlock : {T : Type 0} → Result T DevFault → ℕ → ℕ → List ℕ → (ℕ → BlockState) → (ℕ → BlockState) → Type 0
+ReadsBlock (Ok x) n at out old new = ((old at).current ≡ Some out) × (new ≡ old)
+ReadsBlock (Err (Stopped m)) n at out old new = Settles n old new
+ReadsBlock (Err (Failed m)) n at out old new = Settles n old new
+ReadsBlock (Err (Lost b)) n at out old new = ((old at).current ≡ None) × (new ≡ old)
+ReadsBlock (Err (Damaged b)) n at out old new = ⊥

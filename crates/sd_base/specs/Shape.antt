@@ -1,5 +1,5 @@
 -- The shape of a store: its numbers, and where its parts lie on a device.
-use Rattle.std.specs.Prelude.{◌+◌, ◌*◌, ◌≤◌, ◌^◌, ℕ}
+use Rattle.std.specs.Prelude.{◌+◌, ◌-◌, ◌*◌, ◌%◌, ◌≤◌, ◌^◌, ℕ, Bool, true, false}
 use Rattle.sd_base.specs.declared.shape.Shape.{Shape}
 
 -- the numbers are in their ranges
@@ -21,3 +21,12 @@ first_page s = 1 + s.nodes * (s.ring + 1)
 -- how many blocks the disk needs
 abbrev pub disk_need : Shape → ℕ
 disk_need s = first_page s + page_count s
+
+-- the block of a node's anchor: on the vault behind the super, on the disk in front of the node's ring
+abbrev pub anchor_place : Bool → Shape → ℕ → ℕ
+anchor_place true s n = n
+anchor_place false s n = 1 + (n - 1) * (s.ring + 1)
+
+-- the block of the disk in which the log block of a node with this number stands: the blocks of a ring are taken in turns
+abbrev pub ring_place : Shape → ℕ → ℕ → ℕ
+ring_place s n number = anchor_place false s n + 1 + number % s.ring

@@ -34,3 +34,7 @@ block_text fs = with_fields zero_block fs
 -- the number in n bytes at this place
 abbrev pub number_at : ℕ → ℕ → List ℕ → ℕ
 number_at n at text = big_number n (drop at text)
+
+-- the n bytes at this place
+abbrev pub bytes_at : ℕ → ℕ → List ℕ → List ℕ
+bytes_at n at text = take n (drop at text)

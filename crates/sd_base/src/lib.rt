@@ -9,6 +9,7 @@
 #![tactic(auto)]
 
 mod anchors;
+mod calls;
 mod device;
 mod fault;
 mod laws;
@@ -22,6 +23,7 @@ mod text;
 mod value;
 
 pub use anchors::{MAX_ANCHOR, parse_anchor, write_anchor};
+pub use calls::{cover, read_block, write_block};
 pub use device::{Block, BlockNo, Disk, NodeId, ReadAnswer, WriteAnswer};
 pub use fault::DevFault;
 pub use laws::{

@@ -1,7 +1,7 @@
-ghost use Rattle.std.specs.Prelude.{◌≡◌, ◌+◌, ◌<◌, ◌≤◌, ◌↔◌, IsTrue};
-ghost use Rattle.sd_base.specs.Shape.{IsShape, disk_need, first_page, page_count};
+ghost use Rattle.std.specs.Prelude.{◌≡◌, ◌+◌, ◌<◌, ◌≤◌, ◌↔◌, false, IsTrue};
+ghost use Rattle.sd_base.specs.Shape.{IsShape, disk_need, first_page, page_count, anchor_place, ring_place};
 
-use crate::device::BlockNo;
+use crate::device::{BlockNo, NodeId};
 use crate::names::PageNo;
 
 /// The numbers that a store is formatted with.
@@ -47,6 +47,39 @@ impl Shape {
         ensures { result.0 ≡ first_page self.now + x.0 }
     {
         BlockNo(self.first_page() + x.0)
+    }
+
+    /// The block of a node's anchor, on the vault or on the disk, for a node from 1 to `nodes`.
+    pub fn anchor_block(&self, vault: bool, n: NodeId) -> BlockNo
+        requires valid { IsShape self.now }
+        requires node { (1 ≤ n.0) × (n.0 ≤ self.now.nodes) }
+        ensures { result.0 ≡ anchor_place vault self.now n.0 }
+    {
+        if vault {
+            BlockNo(u32::from(n.0))
+        } else {
+            BlockNo(self.disk_anchor(n))
+        }
+    }
+
+    /// The block of the disk for the log block of a node with this number, for a node from 1 to
+    /// `nodes`. Numbers that leave the same rest by `ring` share a block.
+    pub fn ring_block(&self, n: NodeId, number: u64) -> BlockNo
+        requires valid { IsShape self.now }
+        requires node { (1 ≤ n.0) × (n.0 ≤ self.now.nodes) }
+        ensures { result.0 ≡ ring_place self.now n.0 number }
+    {
+        let place = (number % u64::from(self.ring)) as u32;
+        BlockNo(self.disk_anchor(n) + 1 + place)
+    }
+
+    fn disk_anchor(&self, n: NodeId) -> u32
+        requires valid { IsShape self.now }
+        requires node { (1 ≤ n.0) × (n.0 ≤ self.now.nodes) }
+        ensures at { result ≡ anchor_place false self.now n.0 }
+        ensures low { result + self.now.ring < 32777 }
+    {
+        1 + u32::from(n.0 - 1) * (self.ring + 1)
     }
 
     fn first_page(&self) -> u32

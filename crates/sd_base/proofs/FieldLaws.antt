@@ -1,9 +1,8 @@
 -- Bytes of a text, at the place of a field and beside it.
 use Rattle.std.proofs.Common.{◌≡◌, ◌≤◌, ◌<◌, ◌+◌, ℕ, List, [], ◌∷◌, length, get_or, refl, sym, ap, ◌∙◌, arith, rules}
 use Rattle.std.proofs.lemmas.List.{same_lists, places}
-use Rattle.sd_base.specs.Text.{put, Field, bytes_field, with_fields}
+use Rattle.sd_base.specs.Text.{put, Field, bytes_field, with_fields, bytes_at}
 use Rattle.sd_base.proofs.TextLaws.{length-put, StandBehind}
-use Rattle.log_record.specs.Reading.{bytes_at}
 
 -- bytes put behind others leave them
 bytes_at-before : (n at to : ℕ) (bytes text : List ℕ) → at + n ≤ to → to + length bytes ≤ length text → bytes_at n at (put to bytes text) ≡ bytes_at n at text

@@ -1,0 +1,15 @@
+pub mod Records
+pub mod Blocks
+pub mod Sixes
+pub mod Places
+pub mod Fronts
+pub mod SpreadLaws
+pub mod Moves
+pub mod LogLaws
+pub mod Outcomes
+pub mod StartLaws
+pub mod RingLaws
+pub mod OneLog
+pub mod Attached
+pub mod RecordLaws
+pub mod OtherCalls

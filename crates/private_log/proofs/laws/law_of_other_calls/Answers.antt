@@ -1,0 +1,5 @@
+use Rattle.private_log.proofs.OtherCalls.{on_narrowed, on_stilled, cut_narrowed}
+use Rattle.private_log.proofs.laws.law_of_other_calls.Goals as goal
+
+pub returns : goal.returns
+returns c = record { on = on_narrowed; stopped = on_stilled; cut = cut_narrowed }

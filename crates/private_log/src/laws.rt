@@ -1,0 +1,29 @@
+ghost use Rattle.std.specs.Prelude.{◌≡◌, ℕ, List, Option};
+ghost use Rattle.sd_base.specs.Disk.{BlockState, IsOutcome, IsLawful};
+ghost use Rattle.private_log.specs.Content.{Region, LogContent, HoldsFront};
+ghost use Rattle.private_log.specs.Spread.{IsCutLog, IsStill, NarrowsRegion, KeepsRegion};
+ghost use Rattle.private_log.specs.Reading.{contents};
+ghost use Rattle.private_log.specs.Log.{LogState, region, IsLogOn};
+
+/// An image holds one log: its start and its records are what they are read as.
+pub fn law_of_one_log()
+    ensures start { (g : Region) (image : ℕ → Option (List ℕ)) (start other : ℕ) (xs ys : List (List ℕ)) → LogContent g image start xs → LogContent g image other ys → start ≡ other }
+    ensures records { (g : Region) (image : ℕ → Option (List ℕ)) (start other : ℕ) (xs ys : List (List ℕ)) → LogContent g image start xs → LogContent g image other ys → xs ≡ ys }
+{}
+
+/// Whatever a stop leaves of a device, a log on it is a front of its records with all that are stable;
+/// so is what a stop has left.
+pub fn law_of_log_outcomes()
+    ensures on { (l : LogState) (b : ℕ → BlockState) (xs : List (List ℕ)) (image : ℕ → Option (List ℕ)) → IsLogOn l b xs → IsOutcome b image → HoldsFront (region l) l.start l.stable xs image }
+    ensures cut { (g : Region) (start stable : ℕ) (b : ℕ → BlockState) (xs : List (List ℕ)) (image : ℕ → Option (List ℕ)) → IsCutLog g start stable b xs → IsOutcome b image → HoldsFront g start stable xs image }
+    ensures contents { (g : Region) (start stable : ℕ) (b : ℕ → BlockState) (xs : List (List ℕ)) → ((k : ℕ) → IsLawful b k) → IsCutLog g start stable b xs → HoldsFront g start stable xs (contents b) }
+{}
+
+/// A log through calls of the device that aren't its own: reads, writes of other blocks and barriers
+/// leave it as it was, and a call after which no block of its region is uncovered, as a stop of its
+/// port, leaves a front of its records.
+pub fn law_of_other_calls()
+    ensures on { (l : LogState) (b c : ℕ → BlockState) (xs : List (List ℕ)) → NarrowsRegion (region l) b c → KeepsRegion (region l) b c → IsLogOn l b xs → IsLogOn l c xs }
+    ensures stopped { (l : LogState) (b c : ℕ → BlockState) (xs : List (List ℕ)) → ((k : ℕ) → IsLawful c k) → NarrowsRegion (region l) b c → IsStill (region l) c → IsLogOn l b xs → IsCutLog (region l) l.start l.stable c xs }
+    ensures cut { (g : Region) (start stable : ℕ) (b c : ℕ → BlockState) (xs : List (List ℕ)) → NarrowsRegion g b c → KeepsRegion g b c → IsCutLog g start stable b xs → IsCutLog g start stable c xs }
+{}
