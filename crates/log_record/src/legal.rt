@@ -15,6 +15,8 @@ fn is_content(content: &Option<Value>) -> bool
     ensures { IsTrue result ↔ IsContent content.now }
 {
     match content {
+        // Always true: no value is longer. Of a value in an option the prover doesn't know that,
+        // but the contract of `as_slice` says it.
         Some(value) => value.as_slice().len() <= Value::MAX_LEN,
         None => true,
     }
@@ -70,7 +72,8 @@ fn has_contents(rec: &LogRecord) -> bool
 pub fn is_legal(rec: &LogRecord) -> bool
     ensures { IsTrue result ↔ IsLegal rec.now }
 {
-    // Each page number is legal.
+    // Each `u32` is the number of a page, so there is nothing to test. Of a number in an enum the
+    // prover doesn't know that it is a `u32`, but the type of this call's result says it.
     let _page = page_of(rec);
     bsi_of(rec) < MAX_IDENT
         && txn_of(rec) < RECORD_NO_END

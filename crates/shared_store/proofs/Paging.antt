@@ -11,7 +11,7 @@ use Rattle.sd_base.specs.declared.page_op.PageOp.TheVariants as change
 use Rattle.page_image.specs.Image.{IsTextOf}
 use Rattle.page_image.specs.Change.{applied}
 use Rattle.shared_store.specs.Device.{WritesThrough}
-use Rattle.shared_store.specs.ReadPage.{IsDataPage}
+use Rattle.shared_store.specs.ReadPage.{IsDataPage, RefusesPage}
 use Rattle.shared_store.specs.Records.{Sealed, StoreState, shut, opened, page_of, with_record, with_change, Answers, AnswersGet, AnswersPut, after}
 use Rattle.shared_store.specs.Tie.{Shows, ShowsSeal, HoldsPage, ShowsPage, KeepsPage, ShowsOpen, HasCause, is_stop}
 use Rattle.shared_store.specs.declared.command.Command.TheVariants as asks
@@ -56,6 +56,12 @@ pub shown_is_data_page : (b : ℕ → BlockState) (records : ℕ → Option (Lis
 shown_is_data_page b records changes page s =
     let number : s.holds.image.page ≡ page = λ i. record { 0 = s.holds.number i } in
     (s.bytes, s.current, (s.holds.image, number, s.holds.text))
+
+-- where the block is an image of its page, only a stop keeps the page from being read
+pub refused_is_stop : (reply : Reply) (page : PageNo) (content : Option (List ℕ)) → IsDataPage page content → RefusesPage reply page content → is_stop reply ≡ true
+refused_is_stop (says.LostPage x) page content image refused = cc (image.1, refused.1)
+refused_is_stop (says.DamagedDisk at) page content image refused = absurd (refused.2 image)
+refused_is_stop reply page content image refused = refused
 
 -- the page of a key is shown
 pub shown_page : (size : ℕ) (b : ℕ → BlockState) (records : ℕ → Option (List ℕ)) (changes : ℕ → ℕ) (key page : ℕ) → key ≤ 4031 → page ≡ page_of key → ShowsOpen size b records changes → ShowsPage b records changes page

@@ -7,6 +7,8 @@ use Rattle.sd_base.specs.declared.shape.Shape.{Shape}
 use Rattle.page_image.specs.declared.page_view.PageView.{PageView}
 use Rattle.page_image.specs.Image.{IsTextOf}
 use Rattle.shared_store.specs.Records.{Seal, Sealed, Blank, Unsure, StoreState, shut, opened, page_of}
+use Rattle.shared_store.specs.declared.command.Command.{Command}
+use Rattle.shared_store.specs.declared.command.Command.TheVariants as asks
 use Rattle.shared_store.specs.declared.reply.Reply.{Reply}
 use Rattle.shared_store.specs.declared.reply.Reply.TheVariants as says
 
@@ -74,3 +76,10 @@ HasCause reply old new = Unit {0}
 abbrev pub CanServe : Bool → DiskState → Type 0
 CanServe false d = Unit {0}
 CanServe true d = (d.live 1 ≡ true) × (263 ≤ d.size)
+
+-- answered without a call of the device: a bad line, a `format` while a store is open, and a `get` or `put` while none is
+abbrev pub IsAnsweredAlone : Bool → Command → Type 0
+IsAnsweredAlone is_open asks.Bad = Unit {0}
+IsAnsweredAlone is_open asks.Format = is_open ≡ true
+IsAnsweredAlone is_open (asks.Get key) = is_open ≡ false
+IsAnsweredAlone is_open (asks.Put key value) = is_open ≡ false

@@ -14,7 +14,7 @@ use page_image::write_birth;
 use sd_base::{BlockNo, DevFault, Disk, NodeId, PageNo, Shape, parse_super, write_super};
 
 /// What the store is formatted with.
-const SHAPE: Shape = Shape {
+pub(crate) const SHAPE: Shape = Shape {
     nodes: 1,
     ring: 8,
     maps: 1,

@@ -4,10 +4,11 @@ ghost use Rattle.shared_store.specs.Command.{IsKey};
 ghost use Rattle.shared_store.specs.Device.{IsQuiet};
 ghost use Rattle.shared_store.specs.Records.{page_of, opened, after, with_record, with_change, AnswersGet, AnswersPut};
 ghost use Rattle.shared_store.specs.Tie.{Shows, ShowsOpen, KeepsPage, HasCause, is_stop};
-ghost use Rattle.shared_store.specs.ReadPage.{IsDataPage, HoldsImage};
+ghost use Rattle.shared_store.specs.ReadPage.{HoldsImage, RefusesPage};
 
 use crate::command::Command;
 use crate::device::{read_block, write_through};
+use crate::format::SHAPE;
 use crate::reply::{Reply, reply_to};
 use page_image::{apply, identifier, parse, slot};
 use sd_base::{Block, BlockNo, DevFault, Disk, Key, PageNo, PageOp, Value};
@@ -38,7 +39,7 @@ pub(crate) fn page_block(page: PageNo) -> BlockNo
     requires { page.0 ≤ 252 }
     ensures { result.0 ≡ 10 + page.0 }
 {
-    BlockNo(10 + page.0)
+    SHAPE.page_block(page)
 }
 
 /// Reads a data page, or says what is answered in its place.
@@ -53,7 +54,7 @@ fn read_page<D: Disk>(disk: &mut D, page: PageNo, block: &mut Block) -> Result<(
     ensures writers { IsTrue D.told → NoNewWriter (D.state disk.old).block (D.state disk.new).block }
     ensures image { OnOk result (HoldsImage page block.new) }
     ensures read { OnOk result (IsTrue D.told → ((D.state disk.new).block ≡ (D.state disk.old).block) × (((D.state disk.old).block (10 + page.0)).current ≡ Some block.new)) }
-    ensures stop { IfErr result (λ reply. IsTrue D.told → IsDataPage page ((D.state disk.old).block (10 + page.0)).current → is_stop reply ≡ true) }
+    ensures refused { IfErr result (λ reply. IsTrue D.told → RefusesPage reply page ((D.state disk.old).block (10 + page.0)).current) }
 {
     let at = page_block(page);
     match read_block(disk, at, block) {

@@ -3,7 +3,7 @@ ghost use Rattle.sd_base.specs.Faults.{Grew};
 ghost use Rattle.shared_store.specs.Command.{HasKey};
 ghost use Rattle.shared_store.specs.Device.{IsQuiet};
 ghost use Rattle.shared_store.specs.Records.{StoreState, Answers, after};
-ghost use Rattle.shared_store.specs.Tie.{Shows, HasCause, CanServe, is_fine, is_stop};
+ghost use Rattle.shared_store.specs.Tie.{Shows, HasCause, CanServe, IsAnsweredAlone, is_fine, is_stop};
 
 use crate::command::Command;
 use crate::format::format_disk;
@@ -29,6 +29,7 @@ impl Store {
         ensures size { (D.state disk.new).size ≡ (D.state disk.old).size }
         ensures orders { (D.state disk.new).orders ≡ (D.state disk.old).orders }
         ensures grew { Grew (D.state disk.old) (D.state disk.new) }
+        ensures untouched { IsAnsweredAlone self.old.is_open command.now → disk.new ≡ disk.old }
         ensures cause { HasCause result (D.state disk.old) (D.state disk.new) }
         ensures answer { IsTrue D.told → (state : StoreState) → Shows self.old.is_open (D.state disk.old).size (D.state disk.old).block state
             → Answers (D.state disk.old).size state command.now result }

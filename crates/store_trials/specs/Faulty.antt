@@ -1,5 +1,6 @@
 -- What a device of trials means, but for its blocks, of which it tells nothing.
-use Rattle.std.specs.Prelude.{◌≡◌, ◌≢◌, ◌⊎◌, ℕ, Bool, false, List, [], None, nat_lt, slice_index, slice_index_or}
+use Rattle.std.specs.Prelude.{◌≡◌, ◌≢◌, ◌⊎◌, ℕ, Bool, false, List, [], None, slice_index, slice_index_or}
+use Rattle.disk_model.specs.Memory.{is_below}
 use Rattle.sd_base.specs.Disk.{BlockState, DiskState, IsPort}
 use Rattle.sd_base.specs.declared.device.ReadAnswer.{ReadAnswer}
 use Rattle.sd_base.specs.declared.device.WriteAnswer.{WriteAnswer}
@@ -9,9 +10,6 @@ use Rattle.sd_base.specs.declared.device.WriteAnswer.TheVariants as write
 -- a block of which nothing is told
 abbrev pub untold_block : ℕ → BlockState
 untold_block k = record { current = None; outcomes = []; writer = None }
-
-abbrev pub is_below : ℕ → ℕ → Bool
-is_below size k = nat_lt k size
 
 abbrev pub live_at : List Bool → ℕ → Bool
 live_at live n = slice_index_or live n false
