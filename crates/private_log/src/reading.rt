@@ -3,7 +3,7 @@ ghost use Rattle.sd_base.specs.Disk.{IsPort};
 ghost use Rattle.sd_base.specs.Calls.{Keeps, Narrows, NoNewWriter, KeepsForeign};
 ghost use Rattle.sd_base.specs.Faults.{Caused, IsStopOf, StaysLive};
 ghost use Rattle.private_log.specs.Frames.{IsInReach};
-ghost use Rattle.private_log.specs.Reading.{contents, IsLogFault, IsToldOf};
+ghost use Rattle.private_log.specs.Reading.{contents, IsLogFault, IsToldOf, ReadsLog};
 ghost use Rattle.private_log.specs.Log.{region, IsLogOn};
 
 use crate::block::{BLOCK_RECORDS, copy_record, holds_record};
@@ -41,6 +41,8 @@ impl Log {
         ensures kept { OnErr result (out.new ≡ out.old) }
         ensures record { OnOk result (IsTrue D.told → (xs : List (List ℕ)) → IsLogOn self.now (D.state disk.old).block xs → out.new ≡ slice_index_or xs (r - 6 * self.now.start) []) }
         ensures there { IsTrue D.told → (xs : List (List ℕ)) → IsLogOn self.now (D.state disk.old).block xs → IfErr result (IsStopOf port.0) }
+        ensures record_read { OnOk result (IsTrue D.told → (l : ReadsLog (region self.now) (contents (D.state disk.old).block) self.now.start self.now.tail self.now.block) → out.new ≡ slice_index_or l.records (r - 6 * self.now.start) []) }
+        ensures there_read { IsTrue D.told → ReadsLog (region self.now) (contents (D.state disk.old).block) self.now.start self.now.tail self.now.block → IfErr result (IsStopOf port.0) }
     {
         let number = r / BLOCK_RECORDS;
         let place = (r % BLOCK_RECORDS) as usize;

@@ -1,3 +1,4 @@
 pub mod Cut
 pub mod Faulty
 pub mod Client
+pub mod LogTrial

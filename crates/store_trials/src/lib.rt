@@ -18,4 +18,6 @@ pub use streams::{Script, Transcript};
 #[cfg(test)]
 mod client_tests;
 #[cfg(test)]
+mod log_tests;
+#[cfg(test)]
 mod tests;
