@@ -71,7 +71,8 @@ pub fn write_birth_map(x: PageNo, ident: u64, out: &mut Block)
 pub fn entry(b: &Block, place: u8) -> MapEntry
     requires image { (m : MapImage) × IsTextOf m b.now }
     requires place { place ≤ 251 }
-    ensures { (m : MapImage) → IsTextOf m b.now → slice_get m.entries place ≡ Some result }
+    ensures entry { (m : MapImage) → IsTextOf m b.now → slice_get m.entries place ≡ Some result }
+    ensures range { IsEntry result }
 {
     entry_at(b, place)
 }
