@@ -27,7 +27,7 @@ module _ {X : Type 0} where
   set_none (x ∷ xs) (suc n) zero none = none
   set_none (x ∷ xs) (suc n) (suc k) none = set_none xs n k none
 
-  set_here : (xs : List (Option X)) (n : ℕ) → get_or (set xs n None) n None ≡ None
+  pub set_here : (xs : List (Option X)) (n : ℕ) → get_or (set xs n None) n None ≡ None
   set_here [] n = refl
   set_here (x ∷ xs) zero = refl
   set_here (x ∷ xs) (suc n) = set_here xs n

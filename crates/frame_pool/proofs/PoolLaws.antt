@@ -2,13 +2,13 @@
 use Rattle.std.proofs.Common.{◌≡◌, ◌≢◌, ◌<◌, ◌≤◌, ◌+◌, ◌^◌, ℕ, zero, suc, true, List, [], ◌∷◌, ◌++◌, All, Option, Some, None, IsSome, is_some, is_none, map, length, replicate, set, get_or, refl, sym, ◌∙◌, ap, subst, arith}
 use Rattle.std.specs.List.{range_with_len}
 use Rattle.std.proofs.Math.Seq.{get_or-append_seam}
-use Rattle.std.proofs.lemmas.List.{ext_get_or, get_or_default, get_or-map, get_or_append_left, length-append, length-map, length-replicate, length-set, get_or-replicate, map-id, map-set}
+use Rattle.std.proofs.lemmas.List.{ext_get_or, get_or_default, get_or-map, get_or-set_other, get_or_append_left, length-append, length-map, length-replicate, length-set, get_or-replicate, map-id, map-set}
 use Rattle.std.proofs.lemmas.List.Elements.{All-append, All-cons}
 use Rattle.std.proofs.lemmas.List.FromFn.{get_or-range_with_len, length-range_with_len, map-range_with_len_more}
 use Rattle.std.proofs.lemmas.List.Quantifiers.{all_pairs_push}
 use Rattle.std.proofs.lemmas.List.Sums.{count_by-le-length}
 use Rattle.frame_pool.specs.Frames.{frame_at, IsOut, free_count, shown, IsPool}
-use Rattle.frame_pool.proofs.Blanking.{blanked, length-blanked, get_or-blanked, get_or-blanked_other, apart-from_IsSome, count_by-set_none, count_by-blanked, set-blanked}
+use Rattle.frame_pool.proofs.Blanking.{blanked, set_here, length-blanked, get_or-blanked, get_or-blanked_other, apart-from_IsSome, count_by-set_none, count_by-blanked, set-blanked}
 
 -- a frame that is out is one of the pool's
 pub IsOut-within : (frames : List (Option (List ℕ))) (k : ℕ) → IsOut frames k → k < length frames
@@ -115,6 +115,20 @@ shown-all blocks frames e =
     ∙ get_or-blanked (map Some blocks) (range_with_len 0 frames) i 0 (omega (arith, length-range_with_len 0 frames))
     ∙ sym (get_or-replicate frames i None None at))
 
+-- a frame that is taken is none of those that are out
+pub taken-apart : (old new : List (Option (List ℕ))) (f k : ℕ) → old ≡ set new f None → IsOut old k → k ≢ f
+taken-apart old new f k e out same =
+    let none : frame_at old k ≡ None = (λ i. frame_at (e i) (same i)) ∙ set_here new f in
+    let no : is_some {T = List ℕ} None ≡ true = sym (ap is_some none) ∙ out in
+    cc
+
+still_some : (frames : List (Option (List ℕ))) (f k : ℕ) (bytes : List ℕ) → IsOut frames k → IsOut (set frames f (Some bytes)) k
+still_some [] f k bytes out = out
+still_some (x ∷ xs) zero zero bytes out = refl
+still_some (x ∷ xs) zero (suc k) bytes out = out
+still_some (x ∷ xs) (suc f) zero bytes out = out
+still_some (x ∷ xs) (suc f) (suc k) bytes out = still_some xs f k bytes out
+
 -- what is known of a pool's parts is known of what it shows
 module _ (blocks : List (List ℕ)) (free : List ℕ) (frames : List (Option (List ℕ))) (n k : ℕ) (view : shown blocks free ≡ frames) (number : n ≡ k) where
   pub IsOut-inside : IsOut frames k → IsOut (shown blocks free) n
@@ -147,3 +161,15 @@ range_with_len-more n =
 pub IsPool-same : (blocks : List (List ℕ)) (free free' : List ℕ) (capacity capacity' : ℕ) → free ≡ free' → capacity ≡ capacity' → IsPool blocks free capacity → IsPool blocks free' capacity'
 IsPool-same blocks free free' capacity capacity' e e' h =
     subst (IsPool blocks free') e' (subst (λ (ns : List ℕ). IsPool blocks ns capacity) e h)
+
+-- a frame that is out stays out when another one is taken
+pub IsOut-taken : (old new : List (Option (List ℕ))) (f k : ℕ) → old ≡ set new f None → IsOut old k → IsOut new k
+IsOut-taken old new f k e out = ap is_some (sym (get_or-set_other new f k None None (taken-apart old new f k e out)) ∙ sym (ap (λ frames. frame_at frames k) e)) ∙ out
+
+-- and when one is written, itself or another one
+pub IsOut-written : (old new : List (Option (List ℕ))) (f k : ℕ) (bytes : List ℕ) → new ≡ set old f (Some bytes) → IsOut old k → IsOut new k
+IsOut-written old new f k bytes e out = ap (λ frames. is_some (frame_at frames k)) e ∙ still_some old f k bytes out
+
+-- and when another one is given back
+pub IsOut-given : (old new : List (Option (List ℕ))) (f k : ℕ) → new ≡ set old f None → k ≢ f → IsOut old k → IsOut new k
+IsOut-given old new f k e apart out = ap is_some (ap (λ frames. frame_at frames k) e ∙ get_or-set_other old f k None None apart) ∙ out

@@ -6,9 +6,11 @@
 #![tactic(auto)]
 
 mod frame;
+mod laws;
 mod pool;
 
 pub use frame::Frame;
+pub use laws::law_of_other_frames;
 pub use pool::Pool;
 
 #[cfg(test)]
