@@ -43,7 +43,8 @@ fn all_numbers(alloc: Global, frames: u16) -> Result<Vec<u16>, AllocError>
 impl Pool {
     ghost use Rattle.frame_pool.specs.Lending.{LendsFrame};
 
-    /// A pool of that many frames, all free. No other call takes memory.
+    /// A pool of that many frames, all free. No other call takes memory: this one takes a region for
+    /// the frames and one for their numbers.
     pub fn new(alloc: Global, frames: u16) -> Result<Pool, AllocError>
         ensures { IfOk result (λ pool. pool ≡ replicate frames None) }
     {

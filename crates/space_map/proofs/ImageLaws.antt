@@ -12,7 +12,7 @@ use Rattle.sd_base.proofs.Rows.{IsRow, length-rows, length-rows_before, drop-row
 use Rattle.space_map.specs.declared.map_entry.MapEntry.{MapEntry}
 use Rattle.space_map.specs.declared.map_entry.MapEntry.TheVariants.{Free}
 use Rattle.space_map.specs.Entry.{IsEntry, entry_text, entry_of_text}
-use Rattle.space_map.specs.Image.{MapImage, IsMapImage, IsTextOf, map_text, birth_map}
+use Rattle.space_map.specs.Image.{MapImage, IsMapImage, IsMapText, map_text, birth_map}
 use Rattle.space_map.specs.Reading.{entries_at, image_at}
 use Rattle.space_map.specs.Change.{with_entry}
 use Rattle.space_map.proofs.EntryLaws.{length-entry_text, entry_of_text-entry_text}
@@ -51,26 +51,26 @@ entry-read m k h lt =
     ∙ entry_of_text-entry_text (get_or m.entries k (Free 0)) (drop (16 * (k + 1)) (body_of m)) (h.entries k (Free 0) at)
 
 -- what is read at a place of the text of a map page is its entry
-pub IsTextOf-entry : (m : MapImage) (b : List ℕ) (k : ℕ) → IsTextOf m b → k < 252 → entry_of_text (drop (64 + 16 * k) b) ≡ get_or m.entries k (Free 0)
-IsTextOf-entry m b k t lt = ap (λ text. entry_of_text (drop (64 + 16 * k) text)) t.text ∙ entry-read m k t.image lt
+pub IsMapText-entry : (m : MapImage) (b : List ℕ) (k : ℕ) → IsMapText m b → k < 252 → entry_of_text (drop (64 + 16 * k) b) ≡ get_or m.entries k (Free 0)
+IsMapText-entry m b k t lt = ap (λ text. entry_of_text (drop (64 + 16 * k) text)) t.text ∙ entry-read m k t.image lt
 
 -- what is read at all places are its entries
-pub IsTextOf-entries : (m : MapImage) (b : List ℕ) → IsTextOf m b → entries_at b ≡ m.entries
-IsTextOf-entries m b t = sym (fill_by_all (λ k. entry_of_text (drop (64 + 16 * k) b)) m.entries 252 (Free 0) t.image.count (λ k lt. sym (IsTextOf-entry m b k t lt)))
+pub IsMapText-entries : (m : MapImage) (b : List ℕ) → IsMapText m b → entries_at b ≡ m.entries
+IsMapText-entries m b t = sym (fill_by_all (λ k. entry_of_text (drop (64 + 16 * k) b)) m.entries 252 (Free 0) t.image.count (λ k lt. sym (IsMapText-entry m b k t lt)))
 
 -- what is read in the text of a map page is that page
-pub IsTextOf-image_at : (m : MapImage) (x : PageNo) (b : List ℕ) → m.page ≡ x → IsTextOf m b → image_at x b ≡ m
-IsTextOf-image_at m x b page t =
+pub IsMapText-image_at : (m : MapImage) (x : PageNo) (b : List ℕ) → m.page ≡ x → IsMapText m b → image_at x b ≡ m
+IsMapText-image_at m x b page t =
     let ident : header_ident b ≡ m.ident = ap header_ident t.text ∙ ident-read m t.image in
-    let entries : entries_at b ≡ m.entries = IsTextOf-entries m b t in
+    let entries : entries_at b ≡ m.entries = IsMapText-entries m b t in
     λ i. record { page = sym page i; ident = ident i; entries = entries i }
 
 -- a block is the text of one map page
-pub IsTextOf-same : (m n : MapImage) (b : List ℕ) → m.page.0 < 2 ^ 32 → n.page.0 < 2 ^ 32 → IsTextOf m b → IsTextOf n b → m ≡ n
-IsTextOf-same m n b lt lt' t u =
+pub IsMapText-same : (m n : MapImage) (b : List ℕ) → m.page.0 < 2 ^ 32 → n.page.0 < 2 ^ 32 → IsMapText m b → IsMapText n b → m ≡ n
+IsMapText-same m n b lt lt' t u =
     let number : n.page.0 ≡ m.page.0 = sym (page-read n u.image lt') ∙ ap header_page (sym u.text ∙ t.text) ∙ page-read m t.image lt in
     let page : n.page ≡ m.page = λ i. record { 0 = number i } in
-    sym (IsTextOf-image_at m m.page b refl t) ∙ IsTextOf-image_at n m.page b page u
+    sym (IsMapText-image_at m m.page b refl t) ∙ IsMapText-image_at n m.page b page u
 
 -- a page with its first entries written, and the next entry put behind them
 pub page_text-next : (page ident i : ℕ) (entries : List MapEntry) (d : MapEntry) → length entries ≡ 252 → i < 252 → put (64 + 16 * i) (entry_text (get_or entries i d)) (page_text 1 page ident (flat_map entry_text (take i entries))) ≡ page_text 1 page ident (flat_map entry_text (take (i + 1) entries))

@@ -24,7 +24,7 @@ unfoldable pub map_text : MapImage → List ℕ
 map_text m = page_text 1 m.page.0 m.ident (flat_map entry_text m.entries)
 
 -- the block is the text of this map page
-pub record IsTextOf (m : MapImage) (b : List ℕ) : Type 0 where
+pub record IsMapText (m : MapImage) (b : List ℕ) : Type 0 where
   pub image : IsMapImage m
   pub text : b ≡ map_text m
 

@@ -1,6 +1,6 @@
 ghost use Rattle.std.specs.Prelude.{◌≡◌, ◌+◌, ◌^◌, ◌<◌, ◌≤◌, ◌↔◌, ℕ, List, All, IfSome, Some, IsTrue, slice_get};
 ghost use Rattle.space_map.specs.Entry.{IsEntry};
-ghost use Rattle.space_map.specs.Image.{MapImage, IsTextOf, map_text, birth_map};
+ghost use Rattle.space_map.specs.Image.{MapImage, IsMapText, map_text, birth_map};
 ghost use Rattle.space_map.specs.Reading.{entries_at, image_at};
 
 use crate::fields::{ENTRIES, entry_at, is_entry, write_entry};
@@ -9,8 +9,8 @@ use sd_base::{Block, MAP_PAGE, MAX_IDENT, PageNo, page_ident, write_page_header}
 
 /// A map page has one block, and a block is of one map page.
 pub fn law_of_one_text()
-    ensures text { (m : MapImage) (b c : List ℕ) → IsTextOf m b → IsTextOf m c → b ≡ c }
-    ensures image { (m n : MapImage) (b : List ℕ) → m.page.0 < 2 ^ 32 → n.page.0 < 2 ^ 32 → IsTextOf m b → IsTextOf n b → m ≡ n }
+    ensures text { (m : MapImage) (b c : List ℕ) → IsMapText m b → IsMapText m c → b ≡ c }
+    ensures image { (m n : MapImage) (b : List ℕ) → m.page.0 < 2 ^ 32 → n.page.0 < 2 ^ 32 → IsMapText m b → IsMapText n b → m ≡ n }
 {}
 
 /// Whether all that is read at the places of the entries is in range.
@@ -40,8 +40,8 @@ fn write_as_read(b: &Block, x: PageNo, out: &mut Block)
 ///
 /// The format is in docs/FORMATS.md.
 pub fn parse_map(b: &Block, x: PageNo) -> Option<u64>
-    ensures found { IfSome result (λ ident. (m : MapImage) × (m.page ≡ x) × (m.ident ≡ ident) × IsTextOf m b.now) }
-    ensures only { (m : MapImage) → m.page ≡ x → IsTextOf m b.now → result ≡ Some m.ident }
+    ensures found { IfSome result (λ ident. (m : MapImage) × (m.page ≡ x) × (m.ident ≡ ident) × IsMapText m b.now) }
+    ensures only { (m : MapImage) → m.page ≡ x → IsMapText m b.now → result ≡ Some m.ident }
 {
     let ident = page_ident(b);
     if ident > MAX_IDENT || !are_entries(b) {
@@ -59,7 +59,7 @@ pub fn parse_map(b: &Block, x: PageNo) -> Option<u64>
 /// The format is in docs/FORMATS.md.
 pub fn write_birth_map(x: PageNo, ident: u64, out: &mut Block)
     requires { ident ≤ 2 ^ 63 + 2 ^ 40 }
-    ensures { IsTextOf (birth_map x ident) out.new }
+    ensures { IsMapText (birth_map x ident) out.new }
 {
     write_page_header(out, MAP_PAGE, x, ident);
     for place in 0..ENTRIES {
@@ -69,9 +69,9 @@ pub fn write_birth_map(x: PageNo, ident: u64, out: &mut Block)
 
 /// The entry at a place of a map page, from 0 to 251. Only that entry is looked at.
 pub fn entry(b: &Block, place: u8) -> MapEntry
-    requires image { (m : MapImage) × IsTextOf m b.now }
+    requires image { (m : MapImage) × IsMapText m b.now }
     requires place { place ≤ 251 }
-    ensures entry { (m : MapImage) → IsTextOf m b.now → slice_get m.entries place ≡ Some result }
+    ensures entry { (m : MapImage) → IsMapText m b.now → slice_get m.entries place ≡ Some result }
     ensures range { IsEntry result }
 {
     entry_at(b, place)

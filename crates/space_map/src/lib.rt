@@ -2,7 +2,7 @@
 //! stands on the disk is of its present life, or left over from an earlier one.
 //!
 //! It promises upward that a map page has exactly one block: it is written, read and changed exactly as
-//! `IsTextOf` says, and a block that isn't a map page is refused. It stands on `sd_base`, which has the
+//! `IsMapText` says, and a block that isn't a map page is refused. It stands on `sd_base`, which has the
 //! header that all pages share.
 #![tactic(auto)]
 

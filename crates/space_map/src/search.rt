@@ -1,6 +1,6 @@
-ghost use Rattle.std.specs.Prelude.{◌≡◌, position};
+ghost use Rattle.std.specs.Prelude.{◌≡◌, ◌≤◌, IfSome, position};
 ghost use Rattle.space_map.specs.Entry.{is_used_by, is_free};
-ghost use Rattle.space_map.specs.Image.{MapImage, IsTextOf};
+ghost use Rattle.space_map.specs.Image.{MapImage, IsMapText};
 
 use crate::fields::{ENTRIES, entry_at};
 use crate::map_entry::MapEntry;
@@ -26,8 +26,9 @@ fn is_free(e: &MapEntry) -> bool
 
 /// The least place of a map page whose entry is used by the group. `None` exactly where there is none.
 pub fn find_group(b: &Block, g: GroupNo) -> Option<u8>
-    requires { (m : MapImage) × IsTextOf m b.now }
-    ensures { (m : MapImage) → IsTextOf m b.now → result ≡ position (is_used_by g) m.entries }
+    requires { (m : MapImage) × IsMapText m b.now }
+    ensures first { (m : MapImage) → IsMapText m b.now → result ≡ position (is_used_by g) m.entries }
+    ensures place { IfSome result (λ place. place ≤ 251) }
 {
     for place in 0..ENTRIES {
         if is_used_by(&entry_at(b, place), g) {
@@ -39,8 +40,9 @@ pub fn find_group(b: &Block, g: GroupNo) -> Option<u8>
 
 /// The least place of a map page whose entry is free. `None` exactly where all 252 are used.
 pub fn first_free(b: &Block) -> Option<u8>
-    requires { (m : MapImage) × IsTextOf m b.now }
-    ensures { (m : MapImage) → IsTextOf m b.now → result ≡ position is_free m.entries }
+    requires { (m : MapImage) × IsMapText m b.now }
+    ensures first { (m : MapImage) → IsMapText m b.now → result ≡ position is_free m.entries }
+    ensures place { IfSome result (λ place. place ≤ 251) }
 {
     for place in 0..ENTRIES {
         if is_free(&entry_at(b, place)) {

@@ -2,12 +2,12 @@ use Rattle.std.proofs.Common.{◌≡◌, ◌+◌, ◌*◌, ◌<◌, ◌^◌, ℕ
 use Rattle.sd_base.specs.Text.{put}
 use Rattle.sd_base.specs.Page.{header_ident, with_header_ident}
 use Rattle.space_map.specs.Entry.{entry_text}
-use Rattle.space_map.specs.Image.{MapImage, IsTextOf}
+use Rattle.space_map.specs.Image.{MapImage, IsMapText}
 use Rattle.space_map.proofs.ImageLaws.{ident-read, put-map_text, IsMapImage-with_entry}
 use Rattle.space_map.proofs.change.put_entry.Goals as goal
 
 -- the identifier that is read in the text of a map page
-read_as : (m : MapImage) (b : List ℕ) (ident : ℕ) → ident ≡ header_ident b → IsTextOf m b → ident ≡ m.ident
+read_as : (m : MapImage) (b : List ℕ) (ident : ℕ) → ident ≡ header_ident b → IsMapText m b → ident ≡ m.ident
 read_as m b ident e t = e ∙ ap header_ident t.text ∙ ident-read m t.image
 
 pub overflow_add-ident : goal.overflow_add-ident
