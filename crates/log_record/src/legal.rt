@@ -3,13 +3,10 @@ ghost use Rattle.log_record.specs.Legal.{IsContent, IsMark, HasPlace, HasExtra, 
 
 use crate::fields::{bsi_of, group_of, page_of, prev_of, txn_of};
 use crate::record::LogRecord;
-use sd_base::{MAX_IDENT, Value};
+use sd_base::{MAX_GROUP, MAX_IDENT, Value};
 
 /// Record numbers are below this.
 const RECORD_NO_END: u64 = 6 << 56;
-
-/// The highest number of a group.
-const MAX_GROUP: u32 = 268435455;
 
 fn is_content(content: &Option<Value>) -> bool
     ensures { IsTrue result ↔ IsContent content.now }

@@ -12,7 +12,8 @@ use Rattle.page_image.specs.declared.page_view.PageView.{PageView}
 use Rattle.page_image.specs.Slot.{slot_text, slot_of_text, FitsSlot}
 use Rattle.page_image.specs.Image.{image_text, IsImage, IsTextOf, HasFields, birth_image}
 use Rattle.page_image.specs.Change.{with_put}
-use Rattle.page_image.proofs.SlotLaws.{length-slot_text, slot_of_text-slot_text, FitsSlot-slot_of_text}
+use Rattle.sd_base.proofs.SlotLaws.{length-slot_text}
+use Rattle.page_image.proofs.SlotLaws.{slot_of_text-slot_text, FitsSlot-slot_of_text}
 
 abbrev body_of : PageView → List ℕ
 body_of v = flat_map slot_text v.slots

@@ -1,12 +1,8 @@
 -- What is read of the text of a slot.
 use Rattle.std.proofs.Common.{◌≡◌, ◌≤◌, ◌<◌, ◌+◌, ◌-◌, ◌==◌, ℕ, Bool, true, false, cond, Option, Some, None, List, ◌∷◌, ◌++◌, length, take, drop, set, get_or, replicate, min, refl, sym, ◌∙◌, ap, arith, add-zero, ◌↔◌, IsNone, IfSome}
-use Rattle.std.proofs.lemmas.List.{append_assoc, drop-drop, drop-replicate, length-append, length-replicate, length-take, take_at, get_or-drop}
+use Rattle.std.proofs.lemmas.List.{append_assoc, drop-drop, drop-replicate, length-take, take_at, get_or-drop}
 use Rattle.sd_base.specs.Text.{put}
 use Rattle.page_image.specs.Slot.{slot_text, slot_of_text, FitsSlot}
-
-pub length-slot_text : (content : Option (List ℕ)) → FitsSlot content → length (slot_text content) ≡ 252
-length-slot_text None fits = refl
-length-slot_text (Some value) fits = simp (length-append, length-replicate) (omega arith)
 
 -- what was written is read
 pub slot_of_text-slot_text : (content : Option (List ℕ)) (rest : List ℕ) → FitsSlot content → slot_of_text (slot_text content ++ rest) ≡ content

@@ -4,10 +4,7 @@ ghost use Rattle.page_image.specs.Image.{IsImage, IsTextOf, HasFields, image_tex
 
 use crate::page_view::PageView;
 use crate::slots::{slot_at, slots_at, write_slot};
-use sd_base::{Block, MAX_IDENT, PageNo, Value, page_ident, write_page_header};
-
-/// What the header of a data page has for the kind of page.
-const DATA_PAGE: u8 = 2;
+use sd_base::{Block, DATA_PAGE, MAX_IDENT, PageNo, Value, page_ident, write_page_header};
 
 /// Writes a data page.
 fn write_image(v: &PageView, out: &mut Block)

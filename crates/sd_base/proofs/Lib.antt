@@ -4,6 +4,7 @@ pub mod PutLaws
 pub mod FieldLaws
 mod ValueLaws
 pub mod Rows
+pub mod SlotLaws
 pub mod PageLaws
 mod SuperFields
 pub mod AnchorFields

@@ -1,11 +1,11 @@
 -- What is read of the text of a page, and how its parts are changed.
-use Rattle.std.proofs.Common.{◌≡◌, ◌≤◌, ◌<◌, ◌+◌, ◌^◌, ℕ, List, [], ◌∷◌, ◌++◌, length, drop, refl, sym, ◌∙◌, ap, arith, codes}
-use Rattle.std.proofs.lemmas.List.{drop-drop, drop_all, append-nil}
+use Rattle.std.proofs.Common.{◌≡◌, ◌≤◌, ◌<◌, ◌+◌, ◌^◌, ℕ, List, [], ◌∷◌, ◌++◌, length, drop, replicate, refl, sym, ◌∙◌, ap, arith, codes}
+use Rattle.std.proofs.lemmas.List.{drop-drop, drop-replicate, drop_all, append-nil}
 use Rattle.byteorder.specs.Endian.{big_bytes}
 use Rattle.sd_base.specs.Text.{put, zero_block, bytes_field, number_field}
 use Rattle.sd_base.specs.Page.{page_text, header_page, header_ident, with_header_ident}
 use Rattle.sd_base.proofs.TextLaws.{length-big_bytes, length-put, number_at-field}
-use Rattle.sd_base.proofs.PutLaws.{put-put, put-within, put_comm, put-behind, put_same, drop-put}
+use Rattle.sd_base.proofs.PutLaws.{put-put, put-within, put_comm, put-behind, put_same, drop-put, drop-put_before}
 
 module _ (kind page : ℕ) where
   -- the block with what stands before the page number, the identifier and the body
@@ -36,6 +36,23 @@ module _ (kind page : ℕ) where
   pub page_text-nil : (ident : ℕ) → page_text kind page ident [] ≡ put 16 (big_bytes 8 ident) (put 12 (big_bytes 4 page) (put 8 (kind ∷ []) (put 0 (codes "SDPAGE01") zero_block)))
   unfolding page_text
   page_text-nil ident = put_same 64 [] (drop 64 (to_body ident)) (to_body ident) refl
+
+  -- behind the header stand zeros until a body is put there
+  drop-to_body : (ident : ℕ) → drop 64 (to_body ident) ≡ replicate 4032 0
+  drop-to_body ident =
+      let first : length (put 0 (codes "SDPAGE01") zero_block) ≡ 4096 = length-put 0 (codes "SDPAGE01") zero_block (omega arith) in
+      drop-put_before 16 64 (big_bytes 8 ident) to_ident (omega (arith, length-big_bytes 8 ident)) (omega (arith, length-to_ident, length-big_bytes 8 ident))
+      ∙ drop-put_before 12 64 (big_bytes 4 page) to_page (omega (arith, length-big_bytes 4 page)) (omega (arith, length-to_page, length-big_bytes 4 page))
+      ∙ drop-put_before 8 64 (kind ∷ []) (put 0 (codes "SDPAGE01") zero_block) (omega arith) (omega arith)
+      ∙ drop-put_before 0 64 (codes "SDPAGE01") zero_block (omega arith) (omega arith)
+      ∙ drop-replicate 64 4096 0
+
+  -- a body of zeros is none
+  pub page_text-zeros : (ident : ℕ) → page_text kind page ident (replicate 4032 0) ≡ page_text kind page ident []
+  unfolding page_text
+  page_text-zeros ident =
+      put_same 64 (replicate 4032 0) [] (to_body ident) (drop-to_body ident ∙ sym (append-nil (replicate 4032 0)))
+      ∙ sym (page_text-nil ident)
 
   pub length-page_text : (ident : ℕ) (body : List ℕ) → length body ≤ 4032 → length (page_text kind page ident body) ≡ 4096
   unfolding page_text

@@ -42,3 +42,8 @@ put-append_right at n ys xs text e le = same_lists _ _ (search (rules, places)) 
 pub drop-put : (at : ℕ) (bytes text : List ℕ) → at + length bytes ≤ length text → drop at (put at bytes text) ≡ bytes ++ drop (at + length bytes) text
 unfolding put
 drop-put at bytes text le = same_lists _ _ (search (rules, places)) (λ k d h. grind (arith, places))
+
+-- a text from a place on that is behind the bytes that were put
+pub drop-put_before : (at n : ℕ) (bytes text : List ℕ) → at + length bytes ≤ n → at + length bytes ≤ length text → drop n (put at bytes text) ≡ drop n text
+unfolding put
+drop-put_before at n bytes text le le' = same_lists _ _ (search (rules, places)) (λ k d h. grind (arith, places))

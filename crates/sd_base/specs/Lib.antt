@@ -9,4 +9,5 @@ pub mod Text
 pub mod Shape
 pub mod Supers
 pub mod Page
+pub mod Slot
 pub mod Anchors

@@ -8,9 +8,15 @@ use crate::text::{put_bytes, put_u32, put_u64, u32_at, u64_at};
 /// The highest identifier that a page may have, in the format of docs/FORMATS.md.
 pub const MAX_IDENT: u64 = (1 << 63) + (1 << 40);
 
+/// What the header of a map page has for the kind of page.
+pub const MAP_PAGE: u8 = 1;
+
+/// What the header of a data page has for the kind of page.
+pub const DATA_PAGE: u8 = 2;
+
 /// Writes the header of a page of a kind over a whole block, with zeros behind it.
 ///
-/// Map pages are of kind 1 and data pages of kind 2. The format is in docs/FORMATS.md.
+/// The format is in docs/FORMATS.md.
 pub fn write_page_header(out: &mut Block, kind: u8, page: PageNo, ident: u64)
     ensures { out.new ≡ page_text kind page.0 ident [] }
 {

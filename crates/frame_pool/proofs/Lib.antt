@@ -1,0 +1,2 @@
+mod Blanking
+pub mod PoolLaws

@@ -1,0 +1,4 @@
+mod EntryLaws
+pub mod ImageLaws
+mod Finding
+pub mod LifeLaws

@@ -1,0 +1,5 @@
+pub mod Entry
+pub mod Image
+pub mod Reading
+pub mod Change
+pub mod Life
