@@ -171,7 +171,11 @@ fn the_records_that_a_stop_leaves(rt: HostRuntime) -> Result<(), Fail> {
             tail,
             same: true,
         };
-        assert_eq!(rt; try_out(&mut disk, steps, picks), Ok(left), "tail {tail} picks {picks}");
+        assert_eq!(rt;
+            try_out(&mut disk, steps, picks),
+            Ok(left),
+            "tail {tail} picks {picks}"
+        );
     }
     Ok(())
 }
@@ -206,7 +210,11 @@ fn blocks_that_may_not_stand_in_a_log(rt: HostRuntime) -> Result<(), Fail> {
         (3, [255; 4096], Ok(0)),
     ] {
         let mut disk = MemDisk::new(rt.alloc(), 6)?;
-        assert_eq!(rt; attach_over(&mut disk, BlockNo(at), &content), answer, "block {at}");
+        assert_eq!(rt;
+            attach_over(&mut disk, BlockNo(at), &content),
+            answer,
+            "block {at}"
+        );
     }
     Ok(())
 }
@@ -247,7 +255,10 @@ fn read_over<D: Disk>(disk: &mut D, content: &Block) -> Result<u8, DevFault>
 #[test]
 fn blocks_that_are_lost_or_written_over(rt: HostRuntime) -> Result<(), Fail> {
     let mut disk = MemDisk::new(rt.alloc(), 6)?;
-    assert_eq!(rt; attach_without(&mut disk, BlockNo(1)), Err(DevFault::Lost(BlockNo(1))));
+    assert_eq!(rt;
+        attach_without(&mut disk, BlockNo(1)),
+        Err(DevFault::Lost(BlockNo(1)))
+    );
     let mut disk = MemDisk::new(rt.alloc(), 6)?;
     let damaged = Err(DevFault::Damaged(BlockNo(2)));
     assert_eq!(rt; read_over(&mut disk, &[0; 4096]), damaged);

@@ -1,5 +1,4 @@
 use Rattle.std.proofs.Common.{rules, ◌≡◌, ◌-◌, ◌*◌, ◌/◌, ℕ, [], List, Some, true, IsTrue, IfErr, get_or, ap, sym, ◌∙◌, subst}
-use Rattle.sd_base.specs.Disk.{BlockState}
 use Rattle.sd_base.specs.Faults.{IsStopOf}
 use Rattle.private_log.specs.LogBlock.{log_block}
 use Rattle.private_log.specs.Content.{place}
@@ -36,8 +35,8 @@ only_stopped g c xs t finds =
     let tail : c.self.inside.tail / 6 ≡ c.args.self.now.tail / 6 = ap (λ (l : LogState). l.tail / 6) c.self.view_is in
     let m = finds.device (λ e. c.if-number-self.false (e ∙ sym tail)) in
     let stop : IsStopOf c.args.port.0 c.in_err-read_block.field-0.0 =
-        not_lost c.in_err-read_block.field-0.0 c.args.port.0 c.ring_block-at.result.0 c.read_block.new.out (log_block c.args.self.now.node.0 (c.args.r / 6) m.0) (g.D.Disk.state c.args.disk.now).block (g.D.Disk.state c.read_block.new.disk).block
-          c.in_err-read_block.ensures.fault (c.in_err-read_block.ensures.blocks t) (ap (λ k. ((g.D.Disk.state c.args.disk.now).block k).current) at ∙ m.2) in
+    not_lost c.in_err-read_block.field-0.0 c.args.port.0 c.ring_block-at.result.0 c.read_block.new.out (log_block c.args.self.now.node.0 (c.args.r / 6) m.0) (g.D.Disk.state c.args.disk.now).block (g.D.Disk.state c.read_block.new.disk).block
+    c.in_err-read_block.ensures.fault (c.in_err-read_block.ensures.blocks t) (ap (λ k. ((g.D.Disk.state c.args.disk.now).block k).current) at ∙ m.2) in
     search rules
 
 pub returns-in_err-read_block-clause-there : goal.returns-in_err-read_block-clause-there
@@ -54,7 +53,7 @@ not_damaged g c xs t finds =
     let tail : c.self.inside.tail / 6 ≡ l.tail / 6 = ap (λ (l : LogState). l.tail / 6) c.self.view_is in
     let m = finds.device (λ e. c.if-number-self.false (e ∙ sym tail)) in
     let held : Some c.read_block.new.out ≡ Some (log_block l.node.0 (c.args.r / 6) m.0) =
-        sym (c.in_ok-read_block.ensures.blocks t).0 ∙ (ap (λ k. ((g.D.Disk.state c.args.disk.now).block k).current) at ∙ m.2) in
+    sym (c.in_ok-read_block.ensures.blocks t).0 ∙ (ap (λ k. ((g.D.Disk.state c.args.disk.now).block k).current) at ∙ m.2) in
     let node : c.self.inside.node.0 ≡ l.node.0 = ap (λ (l : LogState). l.node.0) c.self.view_is in
     let is : c.read_block.new.out ≡ log_block c.self.inside.node.0 (c.args.r / 6) m.0 = cc in
     c.if-not-holds_record.ensures.only (search rules) m.0 m.1.fits m.1.within is
@@ -73,7 +72,7 @@ from_device g c xs t finds =
     let tail : c.self.inside.tail / 6 ≡ l.tail / 6 = ap (λ (l : LogState). l.tail / 6) c.self.view_is in
     let m = finds.device (λ e. c.if-number-self.false (e ∙ sym tail)) in
     let held : Some c.read_block.new.out ≡ Some (log_block l.node.0 (c.args.r / 6) m.0) =
-        sym (c.in_ok-read_block.ensures.blocks t).0 ∙ (ap (λ k. ((g.D.Disk.state c.args.disk.now).block k).current) at ∙ m.2) in
+    sym (c.in_ok-read_block.ensures.blocks t).0 ∙ (ap (λ k. ((g.D.Disk.state c.args.disk.now).block k).current) at ∙ m.2) in
     let is : c.read_block.new.out ≡ log_block l.node.0 (c.args.r / 6) m.0 = cc in
     c.copy_record-2.ensures l.node.0 (c.args.r / 6) m.0 m.1.fits m.1.within is ∙ m.1.is
 
