@@ -1,5 +1,5 @@
 -- The locks that transactions have: a finite map from locks to modes.
-use Rattle.std.specs.Prelude.{◌≡◌, ◌==◌, ◌&&◌, ◌/◌, Bool, true, false, not, List, Option, Some, None, filter, fold, map, IsSome, if◌then◌else◌, refl}
+use Rattle.std.specs.Prelude.{◌≡◌, ◌==◌, ◌&&◌, ◌||◌, ◌/◌, Bool, true, false, not, List, Option, Some, None, filter, fold, map, IsSome, if◌then◌else◌, refl}
 use Rattle.std.specs.Coded.{Coded, code_by, coded_bool}
 use Rattle.std.specs.Ordering.{is_gt}
 use Rattle.std.specs.FinMap as finite
@@ -15,7 +15,8 @@ use Rattle.record_locks.specs.Order.{Lock, lock, lock_cmp, lock_code, txn_cmp, s
 abbrev pub Held : Type 0
 Held = finite.FinMap lock_cmp Mode
 
-abbrev is_write : Mode → Bool
+-- a lock in this mode is to write
+abbrev pub is_write : Mode → Bool
 is_write Read = false
 is_write Write = true
 
@@ -112,6 +113,6 @@ without_txn t m = locks_where (λ l mode. not (same_txn l.txn t)) m
 abbrev pub without_node : NodeId → Held → Held
 without_node n m = locks_where (λ l mode. not (l.txn.node.0 == n.0)) m
 
--- without the locks of the node in mode Read
+-- without the locks of the node that are to read
 abbrev pub without_reads_of : NodeId → Held → Held
-without_reads_of n m = locks_where (λ l mode. not (l.txn.node.0 == n.0 && covers (Some Read) mode)) m
+without_reads_of n m = locks_where (λ l mode. not (l.txn.node.0 == n.0) || is_write mode) m
