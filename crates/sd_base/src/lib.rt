@@ -30,7 +30,7 @@ pub use laws::{
     law_of_covered_devices, law_of_foreign_blocks, law_of_free_blocks, law_of_outcomes,
     law_of_two_calls,
 };
-pub use names::{GroupNo, Key, MAX_GROUP, PageNo};
+pub use names::{GroupNo, Key, MAX_GROUP, PageNo, TxnId};
 pub use page_header::{
     DATA_PAGE, MAP_PAGE, MAX_IDENT, page_ident, page_number, put_page_ident, write_page_header,
 };

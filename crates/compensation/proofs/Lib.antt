@@ -1,0 +1,2 @@
+mod InverseLaws
+pub mod LeftLaws

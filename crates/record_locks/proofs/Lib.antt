@@ -1,0 +1,4 @@
+pub mod OrderLaws
+pub mod HeldLaws
+pub mod CompatibleLaws
+mod TableLaws

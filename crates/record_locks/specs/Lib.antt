@@ -1,0 +1,4 @@
+pub mod Order
+pub mod Held
+pub mod Answer
+pub mod Table
