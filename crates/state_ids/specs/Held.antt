@@ -1,0 +1,53 @@
+-- A page in a frame, and what it takes to change it.
+use Rattle.std.specs.Prelude.{◌≡◌, ◌+◌, ◌*◌, ◌≤◌, ℕ, List, Option, Some, slice_set, slice_index_or}
+use Rattle.sd_base.specs.Shape.{IsShape}
+use Rattle.sd_base.specs.declared.shape.Shape.{Shape}
+use Rattle.sd_base.specs.declared.names.PageNo.{PageNo}
+use Rattle.sd_base.specs.declared.page_op.PageOp.{PageOp}
+use Rattle.page_owner.specs.Owners.{Grant}
+use Rattle.frame_pool.specs.Frames.{frame_at}
+use Rattle.page_image.specs.declared.page_view.PageView.{PageView}
+use Rattle.space_map.specs.declared.map_entry.MapEntry.TheVariants.{Free}
+use Rattle.space_map.specs.Image.{MapImage}
+use Rattle.state_ids.specs.PageImage.{PageImage, IsText, data_page, map_page}
+
+-- A page in a frame: its ticket, and the number of the last log record of its changes, if it was changed here.
+pub record HeldPage : Type 0 where
+  pub frame : ℕ
+  pub ticket : Grant
+  pub last : ℕ
+
+-- A record in a log: of which page, with which identifier before it, the change, and its number.
+pub record LoggedChange : Type 0 where
+  pub page : PageNo
+  pub ident : ℕ
+  pub op : PageOp
+  pub number : ℕ
+
+-- A page that was written with all its changes up to this record.
+pub record WrittenPage : Type 0 where
+  pub page : PageNo
+  pub last : ℕ
+
+-- this frame of a pool holds the page
+pub record Shows (pool : List (Option (List ℕ))) (frame : ℕ) (image : PageImage) : Type 0 where
+  pub bytes : List ℕ
+  pub held : frame_at pool frame ≡ Some bytes
+  pub text : IsText image bytes
+
+-- nothing of the pool has changed but what this frame holds
+abbrev pub KeepsFrames : ℕ → List (Option (List ℕ)) → List (Option (List ℕ)) → Type 0
+KeepsFrames frame old new = new ≡ slice_set old frame (frame_at new frame)
+
+-- The map page in the one frame has the data page in the other one as free, with the identifier behind the page's own.
+pub record IsFreed (pool : List (Option (List ℕ))) (frame map : ℕ) : Type 0 where
+  pub shape : Shape
+  pub valid : IsShape shape
+  pub page : PageView
+  pub content : Shows pool frame (data_page page)
+  pub image : MapImage
+  pub entries : Shows pool map (map_page image)
+  pub place : ℕ
+  pub within : place ≤ 251
+  pub number : page.page.0 ≡ shape.maps + 252 * image.page.0 + place
+  pub free : slice_index_or image.entries place (Free 0) ≡ Free (page.ident + 1)

@@ -1,0 +1,3 @@
+pub mod PageImage
+pub mod Held
+pub mod Blocks
