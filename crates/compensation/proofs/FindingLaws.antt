@@ -1,7 +1,7 @@
 -- What is left of a transaction is found from record to record.
 use Rattle.std.proofs.Common.{◌≡◌, ◌+◌, ◌-◌, ◌≤◌, ◌<◌, ◌&&◌, ◌||◌, ◌++◌, ℕ, zero, suc, Bool, true, false, not, cond, nat_le, List, [], ◌∷◌, All, Option, Some, None, length, filter, take, refl, sym, ◌∙◌, ap, subst, arith, ◌⊎◌, inl, inr, option_and_then, unwrap_or}
 use Rattle.std.specs.List.{list_any, slice_get}
-use Rattle.std.proofs.lemmas.List.{length-append, length-take, take-append-le, take_all, take_at}
+use Rattle.std.proofs.lemmas.List.{append-nil, length-append, length-take, take-append-le, take_all, take_at}
 use Rattle.std.proofs.lemmas.List.Elements.{All-append}
 use Rattle.std.proofs.lemmas.Bool.Decides.{nat_tests}
 use Rattle.log_record.specs.declared.record.LogRecord.{LogRecord}
@@ -312,3 +312,12 @@ in_front (r ∷ rs) (suc n) (suc i) rec at = let rest = in_front rs n i rec at i
 pub left_at-begin : (t first : ℕ) (recs : List LogRecord) → ((i : ℕ) (rec : LogRecord) → slice_get recs i ≡ Some rec → first + i ≤ t → is_update_of t rec ≡ false) → left_at t first recs t ≡ []
 left_at-begin t first recs none =
     no_updates t first (take (t + 1 - first) recs) (λ i rec at. let front = in_front recs (t + 1 - first) i rec at in none i rec front.1 (omega (arith, front.0)))
+
+-- a log that begins later, behind no update of the transaction, leaves the same
+pub uncompensated-append : (t first : ℕ) (front recs : List LogRecord) → ((i : ℕ) (rec : LogRecord) → slice_get front i ≡ Some rec → is_update_of t rec ≡ false) → uncompensated t first (front ++ recs) ≡ uncompensated t (first + length front) recs
+uncompensated-append t first [] recs none = let same : first ≡ first + 0 = omega arith in ap (λ n. uncompensated t n recs) same
+uncompensated-append t first (r ∷ rs) recs none =
+    let number : first + 1 + length rs ≡ first + length (r ∷ rs) = omega arith in
+    (λ i. uncompensated-append t (first + 1) rs recs (λ k rec at. none (suc k) rec at) i ++ here (none 0 r refl i) (list_any (takes_back t first) (rs ++ recs)) first)
+    ∙ append-nil (uncompensated t (first + 1 + length rs) recs)
+    ∙ ap (λ n. uncompensated t n recs) number

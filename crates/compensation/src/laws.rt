@@ -12,6 +12,11 @@ pub fn law_of_one_more_record()
     ensures other { (t first : ℕ) (recs : List LogRecord) (rec : LogRecord) → is_update_of t rec ≡ false → next_after t rec ≡ None → uncompensated t first (recs ++ rec ∷ []) ≡ uncompensated t first recs }
 {}
 
+/// A log that is cut off in front, where no update of the transaction stands, leaves the same of it.
+pub fn law_of_a_log_cut_in_front()
+    ensures { (t first : ℕ) (front recs : List LogRecord) → ((i : ℕ) (rec : LogRecord) → slice_get front i ≡ Some rec → is_update_of t rec ≡ false) → uncompensated t first (front ++ recs) ≡ uncompensated t (first + length front) recs }
+{}
+
 /// Where the last record of a transaction is an update, or a compensation that says rightly what is
 /// next, that is the newest that is left. One that names no update, but what lies before all of them,
 /// says that nothing is.
