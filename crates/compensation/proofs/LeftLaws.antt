@@ -10,7 +10,7 @@ use Rattle.compensation.specs.Left.{is_update_of, next_after, lies_before, takes
 use Rattle.compensation.specs.Finding.{newest, next_to_undo}
 
 -- the update with this number, if it is one that is left
-abbrev here : Bool → Bool → ℕ → List ℕ
+abbrev pub here : Bool → Bool → ℕ → List ℕ
 here update gone u = cond (update && not gone) (u ∷ []) []
 
 any_push : (test : LogRecord → Bool) (recs : List LogRecord) (rec : LogRecord) → list_any test (recs ++ rec ∷ []) ≡ (list_any test recs || test rec)
@@ -70,7 +70,7 @@ uncompensated-compensation t first next (r ∷ rs) rec other is =
 
 -- ---- what each kind of record is
 
-update_not_compensation : (t : ℕ) (rec : LogRecord) → is_update_of t rec ≡ true → next_after t rec ≡ None
+pub update_not_compensation : (t : ℕ) (rec : LogRecord) → is_update_of t rec ≡ true → next_after t rec ≡ None
 update_not_compensation t Begin e = refl
 update_not_compensation t (Set txn prev page bsi slot before after) e = refl
 update_not_compensation t (Append txn prev page bsi slot present len bytes) e = refl
@@ -81,7 +81,7 @@ update_not_compensation t (Cut txn prev next page bsi slot present len) e = cc
 update_not_compensation t (MapUse page bsi place group) e = refl
 update_not_compensation t (MapFree page bsi place group ident) e = refl
 
-compensation_not_update : (t next : ℕ) (rec : LogRecord) → next_after t rec ≡ Some next → is_update_of t rec ≡ false
+pub compensation_not_update : (t next : ℕ) (rec : LogRecord) → next_after t rec ≡ Some next → is_update_of t rec ≡ false
 compensation_not_update t next Begin e = refl
 compensation_not_update t next (Set txn prev page bsi slot before after) e = cc
 compensation_not_update t next (Append txn prev page bsi slot present len bytes) e = cc
@@ -150,7 +150,7 @@ Falls-push (x ∷ xs) n f h = (
     All-one P n p zero d lt = p
     All-one P n p (suc k) d lt = absurd (omega arith)
 
-not_before : (t first : ℕ) (recs : List LogRecord) → All (λ v. first ≤ v) (uncompensated t first recs)
+pub not_before : (t first : ℕ) (recs : List LogRecord) → All (λ v. first ≤ v) (uncompensated t first recs)
 not_before t first [] = λ k d lt. absurd (omega arith)
 not_before t first (r ∷ rs) =
     let rest : All (λ v. first ≤ v) (uncompensated t (first + 1) rs) = λ k d lt. (let later = not_before t (first + 1) rs k d lt in omega arith) in

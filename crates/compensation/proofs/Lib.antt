@@ -1,2 +1,3 @@
 mod InverseLaws
 pub mod LeftLaws
+pub mod FindingLaws

@@ -33,7 +33,7 @@ abbrev pub lies_before : Option ℕ → ℕ → Bool
 lies_before None u = false
 lies_before (Some next) u = nat_lt next u
 
--- the record is a compensation of the transaction that took the update u back, or one behind it that u went before
+-- the record is a compensation of the transaction behind which the update u isn't left: what is next lies before u
 abbrev pub takes_back : ℕ → ℕ → LogRecord → Bool
 takes_back t u rec = lies_before (next_after t rec) u
 

@@ -11,7 +11,9 @@ mod laws;
 mod next;
 
 pub use inverse::take_back;
-pub use laws::{law_of_one_more_record, law_of_the_next_record};
+pub use laws::{
+    law_of_one_more_record, law_of_the_finding, law_of_the_next_record, law_of_told_logs,
+};
 pub use next::next_of;
 
 #[cfg(test)]

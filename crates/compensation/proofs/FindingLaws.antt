@@ -1,0 +1,323 @@
+-- What is left of a transaction is found from record to record.
+use Rattle.std.proofs.Common.{◌≡◌, ◌+◌, ◌-◌, ◌≤◌, ◌<◌, ◌&&◌, ◌||◌, ◌++◌, ℕ, zero, suc, Bool, true, false, not, cond, nat_le, List, [], ◌∷◌, All, Option, Some, None, length, filter, take, refl, sym, ◌∙◌, ap, subst, arith, ◌⊎◌, inl, inr, option_and_then, unwrap_or}
+use Rattle.std.specs.List.{list_any, slice_get}
+use Rattle.std.proofs.lemmas.List.{append-nil, length-append, length-take, take-append-le, take_all, take_at}
+use Rattle.std.proofs.lemmas.List.Elements.{All-append}
+use Rattle.std.proofs.lemmas.Bool.Decides.{nat_tests}
+use Rattle.log_record.specs.declared.record.LogRecord.{LogRecord}
+use Rattle.compensation.specs.Left.{is_update_of, next_after, lies_before, takes_back, uncompensated}
+use Rattle.compensation.specs.Finding.{left_at, record_at, record_before, next_behind, TellsLeft}
+use Rattle.compensation.proofs.LeftLaws.{here, left-update, left-compensation, not_before, update_not_compensation, compensation_not_update}
+
+-- ---- the newest that is left, and what was left before it
+
+record IsNewest (t first : ℕ) (recs : List LogRecord) (u : ℕ) (rest : List ℕ) : Type 0 where
+  before : List LogRecord
+  rec : LogRecord
+  behind : List LogRecord
+  split : recs ≡ before ++ rec ∷ behind
+  number : u ≡ first + length before
+  update : is_update_of t rec ≡ true
+  stays : list_any (takes_back t u) behind ≡ false
+  left : rest ≡ uncompensated t first before
+
+-- what takes back an update takes back those behind it
+fewer : (t u v : ℕ) (rec : LogRecord) → u ≤ v → takes_back t v rec ≡ false → takes_back t u rec ≡ false
+fewer t u v rec le h = by (next_after t rec) h
+  where
+    by : (o : Option ℕ) → lies_before o v ≡ false → lies_before o u ≡ false
+    by None e = refl
+    by (Some next) e = grind (arith, nat_tests)
+
+both_false : (a b : Bool) → (a || b) ≡ false → (a ≡ false) × (b ≡ false)
+both_false true b e = cc
+both_false false b e = (refl, e)
+
+none_fewer : (t u v : ℕ) (recs : List LogRecord) → u ≤ v → list_any (takes_back t v) recs ≡ false → list_any (takes_back t u) recs ≡ false
+none_fewer t u v [] le h = refl
+none_fewer t u v (r ∷ rs) le h =
+    let parts = both_false (takes_back t v r) (list_any (takes_back t v) rs) h in
+    ap (λ b. b || list_any (takes_back t u) rs) (fewer t u v r le parts.0) ∙ none_fewer t u v rs le parts.1
+
+any-append : (p : LogRecord → Bool) (xs ys : List LogRecord) → list_any p (xs ++ ys) ≡ (list_any p xs || list_any p ys)
+any-append p [] ys = refl
+any-append p (x ∷ xs) ys = by (p x) (any-append p xs ys)
+  where
+    by : (b : Bool) → list_any p (xs ++ ys) ≡ (list_any p xs || list_any p ys) → (b || list_any p (xs ++ ys)) ≡ ((b || list_any p xs) || list_any p ys)
+    by true e = refl
+    by false e = e
+
+or_false : (b : Bool) → (b || false) ≡ b
+or_false true = refl
+or_false false = refl
+
+newest_is : (t first : ℕ) (recs : List LogRecord) (u : ℕ) (rest : List ℕ) → uncompensated t first recs ≡ u ∷ rest → IsNewest t first recs u rest
+newest_is t first [] u rest e = cc
+newest_is t first (r ∷ rs) u rest e = by (uncompensated t (first + 1) rs) refl e (λ v vs f. newest_is t (first + 1) rs v vs f)
+  where
+    alone : (b g : Bool) → list_any (takes_back t first) rs ≡ g → is_update_of t r ≡ b → here b g first ≡ u ∷ rest → IsNewest t first (r ∷ rs) u rest
+    alone true false kept is e = record {
+      before = [];
+      rec = r;
+      behind = rs;
+      split = refl;
+      number = (let same : first ≡ u = cc in omega arith);
+      update = is;
+      stays = (let same : first ≡ u = cc in ap (λ v. list_any (takes_back t v) rs) (sym same) ∙ kept);
+      left = (let same : [] ≡ rest = cc in sym same);
+    }
+    alone true true kept is e = cc
+    alone false g kept is e = cc
+
+    by : (xs : List ℕ) → uncompensated t (first + 1) rs ≡ xs → xs ++ here (is_update_of t r) (list_any (takes_back t first) rs) first ≡ u ∷ rest → ((v : ℕ) (vs : List ℕ) → uncompensated t (first + 1) rs ≡ v ∷ vs → IsNewest t (first + 1) rs v vs) → IsNewest t first (r ∷ rs) u rest
+    by [] is e more = alone (is_update_of t r) (list_any (takes_back t first) rs) refl refl e
+    by (v ∷ vs) is e more =
+        let h : IsNewest t (first + 1) rs v vs = more v vs is in
+        let same : v ≡ u = cc in
+        let tail : vs ++ here (is_update_of t r) (list_any (takes_back t first) rs) first ≡ rest = cc in
+        let low : first ≤ v = (let n = h.number in omega arith) in
+        let gone : list_any (takes_back t first) rs ≡ list_any (takes_back t first) h.before =
+        ap (list_any (takes_back t first)) h.split
+        ∙ any-append (takes_back t first) h.before (h.rec ∷ h.behind)
+        ∙ ap (λ b. list_any (takes_back t first) h.before || b) (ap (λ o. lies_before o first || list_any (takes_back t first) h.behind) (update_not_compensation t h.rec h.update) ∙ none_fewer t first v h.behind low h.stays)
+        ∙ or_false (list_any (takes_back t first) h.before) in
+        record {
+          before = r ∷ h.before;
+          rec = h.rec;
+          behind = h.behind;
+          split = ap (λ xs. r ∷ xs) h.split;
+          number = (let n = h.number in omega arith);
+          update = h.update;
+          stays = ap (λ n. list_any (takes_back t n) h.behind) (sym same) ∙ h.stays;
+          left = sym tail ∙ (λ i. h.left i ++ here (is_update_of t r) (gone i) first);
+        }
+
+-- ---- the numbers of what is left
+
+abbrev Ends : ℕ → ℕ → List LogRecord → Type 0
+Ends t first recs = All (λ v. v < first + length recs) (uncompensated t first recs)
+
+ends : (t first : ℕ) (recs : List LogRecord) → Ends t first recs
+ends t first [] = λ k d lt. absurd (omega arith)
+ends t first (r ∷ rs) =
+    All-append (λ v. v < first + length (r ∷ rs)) (uncompensated t (first + 1) rs) (here (is_update_of t r) (list_any (takes_back t first) rs) first)
+    (λ k d lt. (let later = ends t (first + 1) rs k d lt in omega arith))
+    (own (is_update_of t r && not (list_any (takes_back t first) rs)))
+  where
+    own : (b : Bool) → All (λ v. v < first + length (r ∷ rs)) (cond b (first ∷ []) [])
+    own true zero d lt = omega arith
+    own true (suc k) d lt = absurd (omega arith)
+    own false k d lt = absurd (omega arith)
+
+left_at-bounded : (t first : ℕ) (recs : List LogRecord) (r : ℕ) → All (λ v. v ≤ r) (left_at t first recs r)
+left_at-bounded t first recs r = λ k d lt.
+    let low = not_before t first (take (r + 1 - first) recs) k d lt in
+    let high = ends t first (take (r + 1 - first) recs) k d lt in
+    omega (arith, length-take (r + 1 - first) recs)
+
+all_kept : (xs : List ℕ) (n : ℕ) → All (λ v. v ≤ n) xs → filter (λ v. nat_le v n) xs ≡ xs
+all_kept [] n h = refl
+all_kept (x ∷ xs) n h = by (nat_le x n) refl (all_kept xs n (λ k d lt. h (suc k) d (omega arith)))
+  where
+    by : (b : Bool) → nat_le x n ≡ b → filter (λ v. nat_le v n) xs ≡ xs → cond b (x ∷ filter (λ v. nat_le v n) xs) (filter (λ v. nat_le v n) xs) ≡ x ∷ xs
+    by true le rest = ap (λ ys. x ∷ ys) rest
+    by false le rest = let low = h 0 x (omega arith) in absurd (grind (arith, nat_tests))
+
+-- ---- a log with one record more
+
+last_or_before : (recs : List LogRecord) (x rec : LogRecord) (i : ℕ) → slice_get (recs ++ x ∷ []) i ≡ Some rec → ((i < length recs) × (slice_get recs i ≡ Some rec)) ⊎ ((i ≡ length recs) × (x ≡ rec))
+last_or_before [] x rec zero e = inr (refl, (let same : x ≡ rec = cc in same))
+last_or_before [] x rec (suc i) e = cc
+last_or_before (r ∷ rs) x rec zero e = inl (omega arith, e)
+last_or_before (r ∷ rs) x rec (suc i) e = elim (last_or_before rs x rec i e) as (λ _. ((suc i < length (r ∷ rs)) × (slice_get (r ∷ rs) (suc i) ≡ Some rec)) ⊎ ((suc i ≡ length (r ∷ rs)) × (x ≡ rec))) [
+  | inl h ↦ inl (omega (arith, h.0), h.1)
+  | inr h ↦ inr (ap suc h.0, h.1)
+]
+
+left_at-push : (t first : ℕ) (recs : List LogRecord) (x : LogRecord) (r : ℕ) → r < first + length recs → left_at t first (recs ++ x ∷ []) r ≡ left_at t first recs r
+left_at-push t first recs x r lt = ap (uncompensated t first) (take-append-le (r + 1 - first) recs (x ∷ []) (omega arith))
+
+pub TellsLeft-push : (t first : ℕ) (recs : List LogRecord) (x : LogRecord) → TellsLeft t first recs
+    → (is_update_of t x ≡ true → (first ≤ record_before x) × (record_before x < first + length recs) × (left_at t first recs (record_before x) ≡ uncompensated t first recs))
+    → ((next : ℕ) → next_after t x ≡ Some next → (next < first + length recs) × (left_at t first recs next ≡ uncompensated t first (recs ++ x ∷ [])))
+    → TellsLeft t first (recs ++ x ∷ [])
+TellsLeft-push t first recs x told update compensation = record { update = updates; compensation = compensations }
+  where
+    updates : (i : ℕ) (rec : LogRecord) → slice_get (recs ++ x ∷ []) i ≡ Some rec → is_update_of t rec ≡ true → (first ≤ record_before rec) × (record_before rec < first + i) × (left_at t first (recs ++ x ∷ []) (record_before rec) ≡ uncompensated t first (take i (recs ++ x ∷ [])))
+    updates i rec at is = elim (last_or_before recs x rec i at) as (λ _. (first ≤ record_before rec) × (record_before rec < first + i) × (left_at t first (recs ++ x ∷ []) (record_before rec) ≡ uncompensated t first (take i (recs ++ x ∷ [])))) [
+      | inl h ↦
+          let old = told.update i rec h.1 is in
+          (old.0, old.1, left_at-push t first recs x (record_before rec) (omega (arith, old.1, h.0)) ∙ old.2 ∙ sym (ap (uncompensated t first) (take-append-le i recs (x ∷ []) (omega (arith, h.0)))))
+      | inr h ↦
+          let new = update (ap (is_update_of t) h.1 ∙ is) in
+          let before : record_before x ≡ record_before rec = ap record_before h.1 in (
+            omega (arith, new.0, before),
+            omega (arith, new.1, before, h.0),
+            ap (left_at t first (recs ++ x ∷ [])) (sym before)
+                ∙ left_at-push t first recs x (record_before x) new.1
+                ∙ new.2
+                ∙ ap (uncompensated t first) (sym (take_at recs (x ∷ []) (length recs) refl) ∙ ap (λ n. take n (recs ++ x ∷ [])) (sym h.0)),
+          )
+    ]
+
+    compensations : (i next : ℕ) (rec : LogRecord) → slice_get (recs ++ x ∷ []) i ≡ Some rec → next_after t rec ≡ Some next → (next < first + i) × (left_at t first (recs ++ x ∷ []) next ≡ uncompensated t first (take (i + 1) (recs ++ x ∷ [])))
+    compensations i next rec at is = elim (last_or_before recs x rec i at) as (λ _. (next < first + i) × (left_at t first (recs ++ x ∷ []) next ≡ uncompensated t first (take (i + 1) (recs ++ x ∷ [])))) [
+      | inl h ↦
+          let old = told.compensation i next rec h.1 is in
+          (old.0, left_at-push t first recs x next (omega (arith, old.0, h.0)) ∙ old.1 ∙ sym (ap (uncompensated t first) (take-append-le (i + 1) recs (x ∷ []) (omega (arith, h.0)))))
+      | inr h ↦
+          let new = compensation next (ap (next_after t) h.1 ∙ is) in (
+            omega (arith, new.0, h.0),
+            left_at-push t first recs x next new.0 ∙ new.1 ∙ ap (uncompensated t first) (sym (take_all (i + 1) (recs ++ x ∷ []) (omega (arith, length-append recs (x ∷ []), h.0)))),
+          )
+    ]
+
+-- ---- what each record tells
+
+length-before : (before : List LogRecord) (rec : LogRecord) (behind : List LogRecord) → slice_get (before ++ rec ∷ behind) (length before) ≡ Some rec
+length-before [] rec behind = refl
+length-before (b ∷ bs) rec behind = length-before bs rec behind
+
+first_at : (t first : ℕ) (recs : List LogRecord) (i : ℕ) → left_at t first recs (first + i) ≡ uncompensated t first (take (i + 1) recs)
+first_at t first recs i = let n : first + i + 1 - first ≡ i + 1 = omega arith in ap (λ n. uncompensated t first (take n recs)) n
+
+take-next : (recs : List LogRecord) (i : ℕ) (rec : LogRecord) → slice_get recs i ≡ Some rec → take (i + 1) recs ≡ take i recs ++ rec ∷ []
+take-next [] i rec e = cc
+take-next (r ∷ rs) zero rec e = let same : r ≡ rec = cc in ap (λ x. x ∷ []) same
+take-next (r ∷ rs) (suc i) rec e = let n : suc i + 1 ≡ suc (i + 1) = omega arith in ap (λ n. take n (r ∷ rs)) n ∙ ap (λ xs. r ∷ xs) (take-next rs i rec e)
+
+within : (recs : List LogRecord) (i : ℕ) (rec : LogRecord) → slice_get recs i ≡ Some rec → i < length recs
+within [] i rec e = cc
+within (r ∷ rs) zero rec e = omega arith
+within (r ∷ rs) (suc i) rec e = let rest = within rs i rec e in omega arith
+
+pub found-update : (t first : ℕ) (recs : List LogRecord) (i : ℕ) (rec : LogRecord) → TellsLeft t first recs → slice_get recs i ≡ Some rec → is_update_of t rec ≡ true → left_at t first recs (first + i) ≡ (first + i) ∷ left_at t first recs (record_before rec)
+found-update t first recs i rec told at is =
+    let told_here = told.update i rec at is in
+    let count : length (take i recs) ≡ i = (let lt = within recs i rec at in omega (arith, length-take i recs)) in
+    first_at t first recs i
+    ∙ ap (uncompensated t first) (take-next recs i rec at)
+    ∙ left-update t first (take i recs) rec is
+    ∙ (λ j. (first + count j) ∷ sym told_here.2 j)
+
+pub found-compensation : (t first : ℕ) (recs : List LogRecord) (i next : ℕ) (rec : LogRecord) → TellsLeft t first recs → slice_get recs i ≡ Some rec → next_after t rec ≡ Some next → left_at t first recs (first + i) ≡ left_at t first recs next
+found-compensation t first recs i next rec told at is = first_at t first recs i ∙ sym (told.compensation i next rec at is).1
+
+-- ---- a compensation takes back the newest
+
+record_at-is : (first : ℕ) (recs : List LogRecord) (r : ℕ) → first ≤ r → record_at first recs r ≡ slice_get recs (r - first)
+record_at-is first recs r le = ap (λ b. cond b (slice_get recs (r - first)) None) (is_le first r le)
+  where
+    is_le : (a b : ℕ) → a ≤ b → nat_le a b ≡ true
+    is_le a b le = grind (arith, nat_tests)
+
+not_le : (a b : ℕ) → b < a → nat_le a b ≡ false
+not_le a b lt = grind (arith, nat_tests)
+
+-- what is next behind an update: as much was left at it as before the update
+next_behind_is : (t first : ℕ) (recs : List LogRecord) (update : LogRecord) → TellsLeft t first recs → first ≤ record_before update → (next_behind t first recs update ≤ record_before update) × (left_at t first recs (next_behind t first recs update) ≡ left_at t first recs (record_before update))
+next_behind_is t first recs update told low =
+    chosen (record_at first recs (record_before update)) (option_and_then (next_after t) (record_at first recs (record_before update))) (sym (record_at-is first recs (record_before update) low)) refl
+  where
+    chosen : (o : Option LogRecord) (n : Option ℕ) → slice_get recs (record_before update - first) ≡ o → option_and_then (next_after t) o ≡ n → (unwrap_or n (record_before update) ≤ record_before update) × (left_at t first recs (unwrap_or n (record_before update)) ≡ left_at t first recs (record_before update))
+    chosen o None at is = (omega arith, refl)
+    chosen None (Some next) at is = cc
+    chosen (Some rec) (Some next) at is =
+        let here = told.compensation (record_before update - first) next rec at is in
+        let number : record_before update + 1 - first ≡ record_before update - first + 1 = omega arith in
+        (omega (arith, here.0), here.1 ∙ ap (λ n. uncompensated t first (take n recs)) (sym number))
+
+-- what a compensation leaves that takes back the newest update, and that it tells so
+module _ (t first : ℕ) (recs : List LogRecord) (u : ℕ) (rest : List ℕ) (update rec : LogRecord) (told : TellsLeft t first recs) (newest : uncompensated t first recs ≡ u ∷ rest) (at : record_at first recs u ≡ Some update) (is : next_after t rec ≡ Some (next_behind t first recs update)) where
+  record Newest : Type 0 where
+    place : ℕ
+    number : u ≡ first + place
+    within : place < length recs
+    low : first ≤ record_before update
+    high : record_before update < u
+    left : rest ≡ left_at t first recs (next_behind t first recs update)
+    next_low : next_behind t first recs update ≤ record_before update
+
+  newest_told : IsNewest t first recs u rest → Newest
+  newest_told h =
+      let i : ℕ = length h.before in
+      let reads : slice_get recs i ≡ Some h.rec = ap (λ xs. slice_get xs i) h.split ∙ length-before h.before h.rec h.behind in
+      let low : first ≤ u = (let n = h.number in omega arith) in
+      let place : u - first ≡ i = (let n = h.number in omega arith) in
+      let same : Some h.rec ≡ Some update = sym reads ∙ sym (ap (slice_get recs) place) ∙ sym (record_at-is first recs u low) ∙ at in
+      let one : h.rec ≡ update = cc in
+      let here = told.update i update (reads ∙ same) (ap (is_update_of t) (sym one) ∙ h.update) in
+      let front : take i recs ≡ h.before = ap (take i) h.split ∙ take_at h.before (h.rec ∷ h.behind) i refl in
+      let behind = next_behind_is t first recs update told here.0 in
+      record {
+        place = i;
+        number = h.number;
+        within = within recs i h.rec reads;
+        low = here.0;
+        high = (let n = h.number in omega (arith, here.1));
+        left = h.left ∙ ap (uncompensated t first) (sym front) ∙ sym here.2 ∙ sym behind.1;
+        next_low = behind.0;
+      }
+
+  pub left-taken_back : uncompensated t first (recs ++ rec ∷ []) ≡ rest
+  left-taken_back =
+      let h : Newest = newest_told (newest_is t first recs u rest newest) in
+      let q : ℕ = next_behind t first recs update in
+      let above : nat_le u q ≡ false = not_le u q (omega (arith, h.high, h.next_low)) in
+      let low : All (λ v. v ≤ q) rest = subst (All (λ v. v ≤ q)) (sym h.left) (left_at-bounded t first recs q) in
+      left-compensation t first q recs rec is
+      ∙ ap (filter (λ v. nat_le v q)) newest
+      ∙ ap (λ b. cond b (u ∷ filter (λ v. nat_le v q) rest) (filter (λ v. nat_le v q) rest)) above
+      ∙ all_kept rest q low
+
+  pub TellsLeft-taken_back : TellsLeft t first (recs ++ rec ∷ [])
+  TellsLeft-taken_back =
+      let h : Newest = newest_told (newest_is t first recs u rest newest) in
+      TellsLeft-push t first recs rec told
+      (λ update_too. let no_update : true ≡ false = sym update_too ∙ compensation_not_update t (next_behind t first recs update) rec is in cc)
+      (λ next is_next.
+      let same : Some (next_behind t first recs update) ≡ Some next = sym is ∙ is_next in
+      let one : next_behind t first recs update ≡ next = cc in (
+        omega (arith, one, h.number, h.within, h.high, h.next_low),
+        ap (left_at t first recs) (sym one) ∙ sym h.left ∙ sym left-taken_back,
+      ))
+
+pub TellsLeft-update : (t first : ℕ) (recs : List LogRecord) (rec : LogRecord) → TellsLeft t first recs → is_update_of t rec ≡ true → first ≤ record_before rec → record_before rec < first + length recs → left_at t first recs (record_before rec) ≡ uncompensated t first recs → TellsLeft t first (recs ++ rec ∷ [])
+TellsLeft-update t first recs rec told is low high left =
+    TellsLeft-push t first recs rec told (λ _. (low, high, left))
+    (λ next is_next. let never : None ≡ Some next = sym (update_not_compensation t rec is) ∙ is_next in cc)
+
+pub TellsLeft-other : (t first : ℕ) (recs : List LogRecord) (rec : LogRecord) → TellsLeft t first recs → is_update_of t rec ≡ false → next_after t rec ≡ None → TellsLeft t first (recs ++ rec ∷ [])
+TellsLeft-other t first recs rec told other none =
+    TellsLeft-push t first recs rec told
+    (λ is. let never : true ≡ false = sym is ∙ other in cc)
+    (λ next is_next. let never : None ≡ Some next = sym none ∙ is_next in cc)
+
+pub TellsLeft-empty : (t first : ℕ) → TellsLeft t first []
+TellsLeft-empty t first = record { update = λ i rec at is. cc; compensation = λ i next rec at is. cc }
+
+-- ---- where it begins
+
+no_updates : (t first : ℕ) (recs : List LogRecord) → ((i : ℕ) (rec : LogRecord) → slice_get recs i ≡ Some rec → is_update_of t rec ≡ false) → uncompensated t first recs ≡ []
+no_updates t first [] none = refl
+no_updates t first (r ∷ rs) none =
+    λ i. no_updates t (first + 1) rs (λ k rec at. none (suc k) rec at) i ++ here (none 0 r refl i) (list_any (takes_back t first) rs) first
+
+in_front : (recs : List LogRecord) (n i : ℕ) (rec : LogRecord) → slice_get (take n recs) i ≡ Some rec → (i < n) × (slice_get recs i ≡ Some rec)
+in_front recs zero i rec at = cc
+in_front [] (suc n) i rec at = cc
+in_front (r ∷ rs) (suc n) zero rec at = (omega arith, at)
+in_front (r ∷ rs) (suc n) (suc i) rec at = let rest = in_front rs n i rec at in (omega (arith, rest.0), rest.1)
+
+pub left_at-begin : (t first : ℕ) (recs : List LogRecord) → ((i : ℕ) (rec : LogRecord) → slice_get recs i ≡ Some rec → first + i ≤ t → is_update_of t rec ≡ false) → left_at t first recs t ≡ []
+left_at-begin t first recs none =
+    no_updates t first (take (t + 1 - first) recs) (λ i rec at. let front = in_front recs (t + 1 - first) i rec at in none i rec front.1 (omega (arith, front.0)))
+
+-- a log that begins later, behind no update of the transaction, leaves the same
+pub uncompensated-append : (t first : ℕ) (front recs : List LogRecord) → ((i : ℕ) (rec : LogRecord) → slice_get front i ≡ Some rec → is_update_of t rec ≡ false) → uncompensated t first (front ++ recs) ≡ uncompensated t (first + length front) recs
+uncompensated-append t first [] recs none = let same : first ≡ first + 0 = omega arith in ap (λ n. uncompensated t n recs) same
+uncompensated-append t first (r ∷ rs) recs none =
+    let number : first + 1 + length rs ≡ first + length (r ∷ rs) = omega arith in
+    (λ i. uncompensated-append t (first + 1) rs recs (λ k rec at. none (suc k) rec at) i ++ here (none 0 r refl i) (list_any (takes_back t first) (rs ++ recs)) first)
+    ∙ append-nil (uncompensated t (first + 1 + length rs) recs)
+    ∙ ap (λ n. uncompensated t n recs) number
