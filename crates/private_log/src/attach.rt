@@ -1,7 +1,7 @@
 ghost use Rattle.std.specs.Prelude.{◌≡◌, ◌+◌, ◌*◌, ◌≤◌, ◌<◌, ◌^◌, ℕ, false, true, List, Some, length, IsTrue, OnOk, IfOk, IfErr};
 ghost use Rattle.sd_base.specs.Disk.{IsPort};
 ghost use Rattle.sd_base.specs.Calls.{Keeps, Narrows, NoNewWriter, KeepsForeign};
-ghost use Rattle.sd_base.specs.Faults.{Caused, IsStopOf, StaysLive};
+ghost use Rattle.sd_base.specs.Faults.{Caused, IsStopOf, OnStop, StaysLive};
 ghost use Rattle.sd_base.specs.Anchors.{anchor_text, IsAnchorNumber};
 ghost use Rattle.sd_base.specs.Shape.{IsShape};
 ghost use Rattle.private_log.specs.Content.{region_of, place, IsLegal, LogContent, HasNoFuture, CountsRecords};
@@ -32,6 +32,7 @@ fn read_start<D: Disk>(
     ensures fault { IfErr result (IsLogFault (region_of s.now n.0) port.0) }
     ensures told { IsTrue D.told → IfErr result (IsTold (region_of s.now n.0) (contents (D.state disk.old).block)) }
     ensures live { StaysLive result ((D.state disk.new).live port.0 ≡ true) }
+    ensures stopped { IfErr result (λ fault. OnStop fault ((D.state disk.new).live port.0 ≡ false)) }
     ensures outcomes { IsTrue D.told → Narrows (D.state disk.old).block (D.state disk.new).block }
     ensures writers { IsTrue D.told → NoNewWriter (D.state disk.old).block (D.state disk.new).block }
     ensures foreign { IsTrue D.told → KeepsForeign port.0 (D.state disk.old).block (D.state disk.new).block }
@@ -68,6 +69,7 @@ fn read_count<D: Disk>(
     ensures fault { IfErr result (IsLogFault (region_of s.now n.0) port.0) }
     ensures told { IsTrue D.told → IfErr result (IsTold (region_of s.now n.0) (contents (D.state disk.old).block)) }
     ensures live { StaysLive result ((D.state disk.new).live port.0 ≡ true) }
+    ensures stopped { IfErr result (λ fault. OnStop fault ((D.state disk.new).live port.0 ≡ false)) }
     ensures outcomes { IsTrue D.told → Narrows (D.state disk.old).block (D.state disk.new).block }
     ensures writers { IsTrue D.told → NoNewWriter (D.state disk.old).block (D.state disk.new).block }
     ensures foreign { IsTrue D.told → KeepsForeign port.0 (D.state disk.old).block (D.state disk.new).block }
@@ -106,6 +108,7 @@ fn read_ring<D: Disk>(
     ensures fault { IfErr result (IsLogFault (region_of s.now n.0) port.0) }
     ensures told { IsTrue D.told → IfErr result (IsTold (region_of s.now n.0) (contents (D.state disk.old).block)) }
     ensures live { StaysLive result ((D.state disk.new).live port.0 ≡ true) }
+    ensures stopped { IfErr result (λ fault. OnStop fault ((D.state disk.new).live port.0 ≡ false)) }
     ensures outcomes { IsTrue D.told → Narrows (D.state disk.old).block (D.state disk.new).block }
     ensures writers { IsTrue D.told → NoNewWriter (D.state disk.old).block (D.state disk.new).block }
     ensures foreign { IsTrue D.told → KeepsForeign port.0 (D.state disk.old).block (D.state disk.new).block }
@@ -147,6 +150,7 @@ impl Log {
         ensures told { IsTrue D.told → IfErr result (IsTold (region_of s.now n.0) (contents (D.state disk.old).block)) }
         ensures legal { IsTrue D.told → (start : ℕ) (xs : List (List ℕ)) → LogContent (region_of s.now n.0) (contents (D.state disk.old).block) start xs → IfErr result (IsStopOf port.0) }
         ensures live { StaysLive result ((D.state disk.new).live port.0 ≡ true) }
+        ensures stopped { IfErr result (λ fault. OnStop fault ((D.state disk.new).live port.0 ≡ false)) }
         ensures outcomes { IsTrue D.told → Narrows (D.state disk.old).block (D.state disk.new).block }
         ensures writers { IsTrue D.told → NoNewWriter (D.state disk.old).block (D.state disk.new).block }
         ensures foreign { IsTrue D.told → KeepsForeign port.0 (D.state disk.old).block (D.state disk.new).block }

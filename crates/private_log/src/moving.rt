@@ -33,6 +33,7 @@ impl Log {
         ensures cause { IfErr result (λ fault. Caused fault (D.state disk.old) (D.state disk.new)) }
         ensures fault { IfErr result (IsStopOf port.0) }
         ensures live { OnOk result ((D.state disk.new).live port.0 ≡ true) }
+        ensures stopped { OnErr result ((D.state disk.new).live port.0 ≡ false) }
         ensures outcomes { IsTrue D.told → NarrowsBut (region self.old).anchor (anchor_text false self.old.node.0 to) (D.state disk.old).block (D.state disk.new).block }
         ensures writers { IsTrue D.told → NoNewWriterBut (region self.old).anchor port.0 (D.state disk.old).block (D.state disk.new).block }
         ensures foreign { IsTrue D.told → KeepsForeignBut (region self.old).anchor port.0 (D.state disk.old).block (D.state disk.new).block }

@@ -1,7 +1,7 @@
-ghost use Rattle.std.specs.Prelude.{◌≡◌, ◌≢◌, ◌-◌, ◌*◌, ◌/◌, ◌%◌, ◌≤◌, ◌<◌, ℕ, true, [], List, slice_index_or, IsTrue, IsOk, OnOk, OnErr, IfErr};
+ghost use Rattle.std.specs.Prelude.{◌≡◌, ◌≢◌, ◌-◌, ◌*◌, ◌/◌, ◌%◌, ◌≤◌, ◌<◌, ℕ, true, false, [], List, slice_index_or, IsTrue, IsOk, OnOk, OnErr, IfErr};
 ghost use Rattle.sd_base.specs.Disk.{IsPort};
 ghost use Rattle.sd_base.specs.Calls.{Keeps, Narrows, NoNewWriter, KeepsForeign};
-ghost use Rattle.sd_base.specs.Faults.{Caused, IsStopOf, StaysLive};
+ghost use Rattle.sd_base.specs.Faults.{Caused, IsStopOf, OnStop, StaysLive};
 ghost use Rattle.private_log.specs.Frames.{IsInReach};
 ghost use Rattle.private_log.specs.Reading.{contents, IsLogFault, IsToldOf, ReadsLog};
 ghost use Rattle.private_log.specs.Log.{region, IsLogOn};
@@ -32,6 +32,7 @@ impl Log {
         ensures fault { IfErr result (IsLogFault (region self.now) port.0) }
         ensures told { IsTrue D.told → IfErr result (IsToldOf (region self.now) (r / 6) (r % 6) (contents (D.state disk.old).block)) }
         ensures live { StaysLive result ((D.state disk.new).live port.0 ≡ true) }
+        ensures stopped { IfErr result (λ fault. OnStop fault ((D.state disk.new).live port.0 ≡ false)) }
         ensures outcomes { IsTrue D.told → Narrows (D.state disk.old).block (D.state disk.new).block }
         ensures writers { IsTrue D.told → NoNewWriter (D.state disk.old).block (D.state disk.new).block }
         ensures foreign { IsTrue D.told → KeepsForeign port.0 (D.state disk.old).block (D.state disk.new).block }

@@ -1,4 +1,4 @@
-ghost use Rattle.std.specs.Prelude.{◌≡◌, ◌≢◌, ◌+◌, ◌-◌, ◌*◌, ◌/◌, ◌%◌, ◌≤◌, ◌<◌, ℕ, true, List, [], ◌∷◌, ◌++◌, length, drop, max, Option, IsTrue, IsOk, OnOk, OnErr, IfOk, IfErr};
+ghost use Rattle.std.specs.Prelude.{◌≡◌, ◌≢◌, ◌+◌, ◌-◌, ◌*◌, ◌/◌, ◌%◌, ◌≤◌, ◌<◌, ℕ, true, false, List, [], ◌∷◌, ◌++◌, length, drop, max, Option, IsTrue, IsOk, OnOk, OnErr, IfOk, IfErr};
 ghost use Rattle.sd_base.specs.Disk.{BlockState, IsPort, IsOutcome};
 ghost use Rattle.sd_base.specs.Calls.{Keeps, Narrows, NarrowsBut, NoNewWriter, NoNewWriterBut, KeepsForeign, KeepsForeignBut};
 ghost use Rattle.sd_base.specs.Faults.{Caused, IsStopOf};
@@ -56,6 +56,7 @@ impl Log {
         ensures cause { IfErr result (λ fault. Caused fault (D.state disk.old) (D.state disk.new)) }
         ensures fault { IfErr result (IsStopOf port.0) }
         ensures live { OnOk result ((D.state disk.new).live port.0 ≡ true) }
+        ensures stopped { OnErr result ((D.state disk.new).live port.0 ≡ false) }
         ensures outcomes { IsTrue D.told → Narrows (D.state disk.old).block (D.state disk.new).block }
         ensures writers { IsTrue D.told → NoNewWriter (D.state disk.old).block (D.state disk.new).block }
         ensures foreign { IsTrue D.told → KeepsForeign port.0 (D.state disk.old).block (D.state disk.new).block }
@@ -88,6 +89,7 @@ impl Log {
         ensures cause { IfErr result (λ fault. Caused fault (D.state disk.old) (D.state disk.new)) }
         ensures fault { IfErr result (IsStopOf port.0) }
         ensures live { OnOk result ((D.state disk.new).live port.0 ≡ true) }
+        ensures stopped { OnErr result ((D.state disk.new).live port.0 ≡ false) }
         ensures outcomes { IsTrue D.told → NarrowsBeside (tail_place self.old) (D.state disk.old).block (D.state disk.new).block }
         ensures writers { IsTrue D.told → NoNewWriterBut (tail_place self.old) port.0 (D.state disk.old).block (D.state disk.new).block }
         ensures foreign { IsTrue D.told → KeepsForeignBut (tail_place self.old) port.0 (D.state disk.old).block (D.state disk.new).block }
@@ -126,6 +128,7 @@ impl Log {
         ensures cause { IfErr result (λ fault. Caused fault (D.state disk.old) (D.state disk.new)) }
         ensures fault { IfErr result (IsStopOf port.0) }
         ensures live { OnOk result ((D.state disk.new).live port.0 ≡ true) }
+        ensures stopped { OnErr result ((D.state disk.new).live port.0 ≡ false) }
         ensures outcomes { IsTrue D.told → NarrowsBeside (next_place self.old) (D.state disk.old).block (D.state disk.new).block }
         ensures writers { IsTrue D.told → NoNewWriterBut (next_place self.old) port.0 (D.state disk.old).block (D.state disk.new).block }
         ensures foreign { IsTrue D.told → KeepsForeignBut (next_place self.old) port.0 (D.state disk.old).block (D.state disk.new).block }
@@ -163,6 +166,7 @@ impl Log {
         ensures cause { IfErr result (λ fault. Caused fault (D.state disk.old) (D.state disk.new)) }
         ensures fault { IfErr result (IsStopOf port.0) }
         ensures live { OnOk result ((D.state disk.new).live port.0 ≡ true) }
+        ensures stopped { OnErr result ((D.state disk.new).live port.0 ≡ false) }
         ensures outcomes { IsTrue D.told → NarrowsBeside (tail_place self.old) (D.state disk.old).block (D.state disk.new).block }
         ensures writers { IsTrue D.told → NoNewWriterBut (tail_place self.old) port.0 (D.state disk.old).block (D.state disk.new).block }
         ensures foreign { IsTrue D.told → KeepsForeignBut (tail_place self.old) port.0 (D.state disk.old).block (D.state disk.new).block }
@@ -194,6 +198,7 @@ impl Log {
         ensures cause { IfErr result (λ fault. Caused fault (D.state disk.old) (D.state disk.new)) }
         ensures fault { IfErr result (IsStopOf port.0) }
         ensures live { OnOk result ((D.state disk.new).live port.0 ≡ true) }
+        ensures stopped { OnErr result ((D.state disk.new).live port.0 ≡ false) }
         ensures outcomes { IsTrue D.told → NarrowsBeside (tail_place self.old) (D.state disk.old).block (D.state disk.new).block }
         ensures writers { IsTrue D.told → NoNewWriterBut (tail_place self.old) port.0 (D.state disk.old).block (D.state disk.new).block }
         ensures foreign { IsTrue D.told → KeepsForeignBut (tail_place self.old) port.0 (D.state disk.old).block (D.state disk.new).block }

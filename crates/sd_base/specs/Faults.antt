@@ -68,6 +68,13 @@ StaysLive (Err (Failed n)) P = Unit {0}
 StaysLive (Err (Lost at)) P = P
 StaysLive (Err (Damaged at)) P = P
 
+-- P where the port stopped or failed
+abbrev pub OnStop : DevFault → Type 0 → Type 0
+OnStop (Stopped n) P = P
+OnStop (Failed n) P = P
+OnStop (Lost at) P = Unit {0}
+OnStop (Damaged at) P = Unit {0}
+
 -- what a read says of the block and of the buffer: it changes no block unless the port stopped
 abbrev pub ReadsBlock : {T : Type 0} → Result T DevFault → ℕ → ℕ → List ℕ → (ℕ → BlockState) → (ℕ → BlockState) → Type 0
 ReadsBlock (Ok x) n at out old new = ((old at).current ≡ Some out) × (new ≡ old)

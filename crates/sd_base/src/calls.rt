@@ -1,7 +1,7 @@
-ghost use Rattle.std.specs.Prelude.{◌≡◌, true, IsTrue, IfErr, OnErr, OnOk};
+ghost use Rattle.std.specs.Prelude.{◌≡◌, true, false, IsTrue, IfErr, OnErr, OnOk};
 ghost use Rattle.sd_base.specs.Disk.{IsPort, IsFreeFor};
 ghost use Rattle.sd_base.specs.Calls.{Keeps, Narrows, NarrowsBut, NoNewWriter, NoNewWriterBut, KeepsForeign, KeepsForeignBut, Writes, CutsWrite, Covers, Settles};
-ghost use Rattle.sd_base.specs.Faults.{Caused, IsStopOf, IsReadFault, StaysLive, ReadsBlock};
+ghost use Rattle.sd_base.specs.Faults.{Caused, IsStopOf, IsReadFault, StaysLive, OnStop, ReadsBlock};
 
 use crate::device::{Block, BlockNo, Disk, NodeId, ReadAnswer, WriteAnswer};
 use crate::fault::DevFault;
@@ -21,6 +21,7 @@ pub fn read_block<D: Disk>(
     ensures cause { IfErr result (λ fault. Caused fault (D.state disk.old) (D.state disk.new)) }
     ensures fault { IfErr result (IsReadFault n.0 at.0) }
     ensures live { StaysLive result ((D.state disk.new).live n.0 ≡ true) }
+    ensures stopped { IfErr result (λ fault. OnStop fault ((D.state disk.new).live n.0 ≡ false)) }
     ensures outcomes { IsTrue D.told → Narrows (D.state disk.old).block (D.state disk.new).block }
     ensures writers { IsTrue D.told → NoNewWriter (D.state disk.old).block (D.state disk.new).block }
     ensures foreign { IsTrue D.told → KeepsForeign n.0 (D.state disk.old).block (D.state disk.new).block }
@@ -50,6 +51,7 @@ pub fn write_block<D: Disk>(
     ensures cause { IfErr result (λ fault. Caused fault (D.state disk.old) (D.state disk.new)) }
     ensures fault { IfErr result (IsStopOf n.0) }
     ensures live { OnOk result ((D.state disk.new).live n.0 ≡ true) }
+    ensures stopped { OnErr result ((D.state disk.new).live n.0 ≡ false) }
     ensures outcomes { IsTrue D.told → NarrowsBut at.0 content.now (D.state disk.old).block (D.state disk.new).block }
     ensures writers { IsTrue D.told → NoNewWriterBut at.0 n.0 (D.state disk.old).block (D.state disk.new).block }
     ensures foreign { IsTrue D.told → KeepsForeignBut at.0 n.0 (D.state disk.old).block (D.state disk.new).block }
@@ -71,6 +73,7 @@ pub fn cover<D: Disk>(disk: &mut D, n: NodeId) -> Result<(), DevFault>
     ensures cause { IfErr result (λ fault. Caused fault (D.state disk.old) (D.state disk.new)) }
     ensures fault { IfErr result (IsStopOf n.0) }
     ensures live { OnOk result ((D.state disk.new).live n.0 ≡ true) }
+    ensures stopped { OnErr result ((D.state disk.new).live n.0 ≡ false) }
     ensures outcomes { IsTrue D.told → Narrows (D.state disk.old).block (D.state disk.new).block }
     ensures writers { IsTrue D.told → NoNewWriter (D.state disk.old).block (D.state disk.new).block }
     ensures foreign { IsTrue D.told → KeepsForeign n.0 (D.state disk.old).block (D.state disk.new).block }

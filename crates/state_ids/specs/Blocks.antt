@@ -7,6 +7,7 @@ use Rattle.sd_base.specs.declared.fault.DevFault.{DevFault}
 use Rattle.sd_base.specs.declared.fault.DevFault.TheVariants.{Stopped, Failed, Lost, Damaged}
 use Rattle.space_map.specs.declared.map_entry.MapEntry.{MapEntry}
 use Rattle.space_map.specs.Entry.{ident_of}
+use Rattle.state_ids.specs.Held.{Shows}
 use Rattle.state_ids.specs.PageImage.{PageImage, page_of, IsText, data_page, map_page}
 
 -- the block of a page
@@ -21,6 +22,10 @@ IsOfKind s (map_page m) = m.page.0 < s.maps
 -- what a block holds is the page x
 abbrev pub HoldsPage : Shape → PageNo → PageImage → Option (List ℕ) → Type 0
 HoldsPage s x image content = (bytes : List ℕ) × (content ≡ Some bytes) × IsText image bytes × (page_of image ≡ x) × IsOfKind s image
+
+-- a frame of a pool holds the page x
+abbrev pub ShowsPage : Shape → PageNo → List (Option (List ℕ)) → ℕ → Type 0
+ShowsPage s x pool frame = (image : PageImage) × Shows pool frame image × (page_of image ≡ x) × IsOfKind s image
 
 -- why a page isn't loaded: its port stopped or failed, or its block is lost or damaged
 abbrev pub IsPageFault : Shape → PageNo → ℕ → DevFault → Type 0

@@ -9,11 +9,13 @@
 
 mod changing;
 mod held;
+mod laws;
 mod loading;
 mod logged;
 mod writing;
 
 pub use held::{Clean, Dirty, Held, Written};
+pub use laws::law_of_changes;
 pub use loading::load;
 pub use logged::{Logged, log_page};
 pub use writing::write_page;

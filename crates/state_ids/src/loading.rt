@@ -1,12 +1,12 @@
-ghost use Rattle.std.specs.Prelude.{◌≡◌, ◌↔◌, ◌<◌, ◌≤◌, ℕ, true, IsTrue, IfOk, IfErr, OnOk, MatchResult, length};
+ghost use Rattle.std.specs.Prelude.{◌≡◌, ◌↔◌, ◌<◌, ◌≤◌, ℕ, true, false, IsTrue, IfOk, IfErr, OnOk, MatchResult, length};
 ghost use Rattle.sd_base.specs.Disk.{IsPort};
 ghost use Rattle.sd_base.specs.Calls.{Keeps, Narrows, NoNewWriter, KeepsForeign};
-ghost use Rattle.sd_base.specs.Faults.{Caused, IsStopOf, StaysLive};
+ghost use Rattle.sd_base.specs.Faults.{Caused, IsStopOf, OnStop, StaysLive};
 ghost use Rattle.sd_base.specs.Shape.{IsShape, page_count};
 ghost use Rattle.frame_pool.specs.Frames.{IsOut};
 ghost use Rattle.state_ids.specs.PageImage.{PageImage, IsText, page_of, in_life};
 ghost use Rattle.state_ids.specs.Held.{Shows, KeepsFrames};
-ghost use Rattle.state_ids.specs.Blocks.{page_place, IsOfKind, HoldsPage, IsPageFault, IsToldOfPage, FitsPage, UnlessStopped};
+ghost use Rattle.state_ids.specs.Blocks.{ShowsPage, page_place, IsOfKind, HoldsPage, IsPageFault, IsToldOfPage, FitsPage, UnlessStopped};
 
 use crate::held::{Clean, Held};
 use frame_pool::{Frame, Pool};
@@ -30,8 +30,9 @@ fn is_image(block: &Block, s: &Shape, x: PageNo) -> bool
 /// Makes of a frame the page that it stands for under its map entry, where that is known.
 fn put_in_life(pool: &mut Pool, f: &Frame, s: &Shape, x: PageNo, e: Option<MapEntry>)
     requires entry { FitsPage s.now x e }
-    requires page { (image : PageImage) × Shows pool.old f.now image × (page_of image ≡ x) × IsOfKind s.now image }
+    requires page { ShowsPage s.now x pool.old f.now }
     ensures frames { KeepsFrames f.now pool.old pool.new }
+    ensures page { ShowsPage s.now x pool.new f.now }
     ensures image { (image : PageImage) → page_of image ≡ x → IsOfKind s.now image → Shows pool.old f.now image → Shows pool.new f.now (in_life e image) }
 {
     if let Some(e) = e {
@@ -61,12 +62,14 @@ fn load_frame<D: Disk>(
     ensures fault { IfErr result (IsPageFault s.now x port.0) }
     ensures told { IsTrue D.told → IfErr result (IsToldOfPage s.now x ((D.state disk.old).block (page_place s.now x)).current) }
     ensures live { StaysLive result ((D.state disk.new).live port.0 ≡ true) }
+    ensures stopped { IfErr result (λ fault. OnStop fault ((D.state disk.new).live port.0 ≡ false)) }
     ensures outcomes { IsTrue D.told → Narrows (D.state disk.old).block (D.state disk.new).block }
     ensures writers { IsTrue D.told → NoNewWriter (D.state disk.old).block (D.state disk.new).block }
     ensures foreign { IsTrue D.told → KeepsForeign port.0 (D.state disk.old).block (D.state disk.new).block }
     ensures blocks { IsTrue D.told → StaysLive result ((D.state disk.new).block ≡ (D.state disk.old).block) }
     ensures frames { KeepsFrames f.now pool.old pool.new }
     ensures out { IsOut pool.new f.now }
+    ensures page { OnOk result (ShowsPage s.now x pool.new f.now) }
     ensures there { IsTrue D.told → (image : PageImage) → HoldsPage s.now x image ((D.state disk.old).block (page_place s.now x)).current → IfErr result (IsStopOf port.0) }
     ensures found { OnOk result (IsTrue D.told → (image : PageImage) × HoldsPage s.now x image ((D.state disk.old).block (page_place s.now x)).current) }
     ensures image { OnOk result (IsTrue D.told → (image : PageImage) → HoldsPage s.now x image ((D.state disk.old).block (page_place s.now x)).current → Shows pool.new f.now (in_life e image)) }
@@ -106,12 +109,14 @@ pub fn load<D: Disk>(
     ensures fault { IfErr result (λ r. IsPageFault s.now t.page port.0 r.0) }
     ensures told { IsTrue D.told → IfErr result (λ r. IsToldOfPage s.now t.page ((D.state disk.old).block (page_place s.now t.page)).current r.0) }
     ensures live { MatchResult result (λ _. (D.state disk.new).live port.0 ≡ true) (λ r. UnlessStopped r.0 ((D.state disk.new).live port.0 ≡ true)) }
+    ensures stopped { IfErr result (λ r. OnStop r.0 ((D.state disk.new).live port.0 ≡ false)) }
     ensures outcomes { IsTrue D.told → Narrows (D.state disk.old).block (D.state disk.new).block }
     ensures writers { IsTrue D.told → NoNewWriter (D.state disk.old).block (D.state disk.new).block }
     ensures foreign { IsTrue D.told → KeepsForeign port.0 (D.state disk.old).block (D.state disk.new).block }
     ensures blocks { IsTrue D.told → MatchResult result (λ _. (D.state disk.new).block ≡ (D.state disk.old).block) (λ r. UnlessStopped r.0 ((D.state disk.new).block ≡ (D.state disk.old).block)) }
     ensures frames { KeepsFrames f pool.old pool.new }
     ensures out { IsOut pool.new f }
+    ensures shows { OnOk result (ShowsPage s.now t.page pool.new f) }
     ensures frame { IfOk result (λ h. h.frame ≡ f) }
     ensures ticket { IfOk result (λ h. h.ticket ≡ t) }
     ensures frame_back { IfErr result (λ r. r.1 ≡ f) }

@@ -1,4 +1,4 @@
-ghost use Rattle.std.specs.Prelude.{◌≡◌, ◌≢◌, ◌+◌, ◌%◌, ◌≤◌, ℕ, [], ◌∷◌, ◌++◌, List, Option, Some, true, IsTrue, IsSome, IsOk, IfOk, IfErr, OnOk, OnErr};
+ghost use Rattle.std.specs.Prelude.{◌≡◌, ◌≢◌, ◌+◌, ◌%◌, ◌≤◌, ℕ, [], ◌∷◌, ◌++◌, List, Option, Some, true, false, IsTrue, IsSome, IsOk, IfOk, IfErr, OnOk, OnErr};
 ghost use Rattle.sd_base.specs.Disk.{IsPort, IsOutcome};
 ghost use Rattle.sd_base.specs.Calls.{Keeps, NoNewWriterBut, KeepsForeignBut};
 ghost use Rattle.sd_base.specs.Faults.{Caused, IsStopOf};
@@ -89,6 +89,7 @@ pub fn log_page<D: Disk>(
     ensures cause { IfErr result (λ fault. Caused fault (D.state disk.old) (D.state disk.new)) }
     ensures fault { IfErr result (IsStopOf port.0) }
     ensures live { OnOk result ((D.state disk.new).live port.0 ≡ true) }
+    ensures stopped { OnErr result ((D.state disk.new).live port.0 ≡ false) }
     ensures outcomes { IsTrue D.told → NarrowsBeside (next_place log.old) (D.state disk.old).block (D.state disk.new).block }
     ensures writers { IsTrue D.told → NoNewWriterBut (next_place log.old) port.0 (D.state disk.old).block (D.state disk.new).block }
     ensures foreign { IsTrue D.told → KeepsForeignBut (next_place log.old) port.0 (D.state disk.old).block (D.state disk.new).block }

@@ -1,4 +1,4 @@
-ghost use Rattle.std.specs.Prelude.{◌≡◌, ◌≢◌, ◌<◌, ℕ, List, Some, None, true, IsTrue, IfOk, IfErr, OnOk, OnErr};
+ghost use Rattle.std.specs.Prelude.{◌≡◌, ◌≢◌, ◌<◌, ℕ, List, Some, None, true, false, IsTrue, IfOk, IfErr, OnOk, OnErr};
 ghost use Rattle.sd_base.specs.Disk.{IsPort, IsFreeFor, IsCovered, Holds};
 ghost use Rattle.sd_base.specs.Calls.{Keeps, NarrowsBut, NoNewWriterBut, KeepsForeignBut};
 ghost use Rattle.sd_base.specs.Faults.{Caused, IsStopOf};
@@ -36,6 +36,7 @@ pub fn write_page<D: Disk>(
     ensures cause { IfErr result (λ fault. Caused fault (D.state disk.old) (D.state disk.new)) }
     ensures fault { IfErr result (IsStopOf port.0) }
     ensures live { OnOk result ((D.state disk.new).live port.0 ≡ true) }
+    ensures stopped { OnErr result ((D.state disk.new).live port.0 ≡ false) }
     ensures page { IfOk result (λ w. w.page ≡ h.now.ticket.page) }
     ensures last { IfOk result (λ w. w.last ≡ h.now.last) }
     ensures outcomes { IsTrue D.told → (b : List ℕ) → frame_at pool.now h.now.frame ≡ Some b → NarrowsBut (page_place s.now h.now.ticket.page) b (D.state disk.old).block (D.state disk.new).block }

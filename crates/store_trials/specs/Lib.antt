@@ -2,3 +2,4 @@ pub mod Cut
 pub mod Faulty
 pub mod Client
 pub mod LogTrial
+pub mod PageTrial

@@ -20,4 +20,6 @@ mod client_tests;
 #[cfg(test)]
 mod log_tests;
 #[cfg(test)]
+mod page_tests;
+#[cfg(test)]
 mod tests;

@@ -8,9 +8,9 @@ use sd_base::{
 };
 use std::test::Fail;
 
-const NODE: NodeId = NodeId(1);
+pub(crate) const NODE: NodeId = NodeId(1);
 
-const SHAPE: Shape = Shape {
+pub(crate) const SHAPE: Shape = Shape {
     nodes: 1,
     ring: 4,
     maps: 1,
@@ -43,7 +43,7 @@ fn text(number: u64) -> [u8; 672] {
 }
 
 /// Writes the anchor of a log that starts with block 0.
-fn write_start<D: Disk>(disk: &mut D) -> Result<(), DevFault>
+pub(crate) fn write_start<D: Disk>(disk: &mut D) -> Result<(), DevFault>
     requires live { (D.state disk.old).live 1 ≡ true }
     requires size { 6 ≤ (D.state disk.old).size }
     requires free { IsFreeForOne D.told (D.state disk.old) }
