@@ -12,7 +12,8 @@ mod next;
 
 pub use inverse::take_back;
 pub use laws::{
-    law_of_one_more_record, law_of_the_finding, law_of_the_next_record, law_of_told_logs,
+    law_of_a_log_cut_in_front, law_of_one_more_record, law_of_the_finding, law_of_the_next_record,
+    law_of_told_logs,
 };
 pub use next::next_of;
 
