@@ -1,6 +1,6 @@
 -- How lines spell commands.
 use Rattle.std.specs.Prelude.{◌≡◌, ◌≢◌, ◌≤◌, ℕ, List, ◌++◌, length, codes, decimal, slice_index, ◌<◌}
-use Rattle.shared_store.specs.Spelling.{spelled, IsValue}
+use Rattle.script_text.specs.Spelling.{spelled, IsValue}
 use Rattle.shared_store.specs.declared.command.Command.{Command}
 use Rattle.shared_store.specs.declared.command.Command.TheVariants.{Bad, Format, Get, Put}
 

@@ -1,8 +1,7 @@
 ghost use Rattle.std.specs.Prelude.{◌≡◌, ℕ, decimal, IfSome, IfNone};
 ghost use Rattle.shared_store.specs.Command.{Means, HasKey, MeansGet, MeansPut, IsKey, IsFirstSpace, HasNoSpace};
 
-use crate::numbers::read_number;
-use crate::spelling::read_value;
+use script_text::{read_number, read_value};
 use sd_base::{Key, Value};
 
 /// What a line asks for.
@@ -19,7 +18,7 @@ pub enum Command {
 }
 
 /// The greatest key.
-const LAST_KEY: u32 = 4031;
+const LAST_KEY: u64 = 4031;
 
 /// Reads a line without its line feed. `Bad` exactly where the line spells no command.
 pub fn read_line(line: &[u8]) -> Command
@@ -77,10 +76,6 @@ fn read_key(digits: &[u8]) -> Option<Key>
     ensures found { IfSome result (λ key. IsKey key.0 × (digits.now ≡ decimal key.0)) }
     ensures only { (k : ℕ) → IsKey k → digits.now ≡ decimal k → result ≡ Some (record { 0 = k }) }
 {
-    let number = read_number(digits)?;
-    if number <= LAST_KEY {
-        Some(Key(number))
-    } else {
-        None
-    }
+    let number = read_number(digits, 0, LAST_KEY)?;
+    Some(Key(number as u32))
 }

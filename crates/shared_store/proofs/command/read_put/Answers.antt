@@ -1,6 +1,6 @@
 use Rattle.std.proofs.Common.{◌∙◌, ◌+◌, decimal, arith}
 use Rattle.std.proofs.lemmas.List.{take_rest}
-use Rattle.shared_store.specs.Spelling.{spelled}
+use Rattle.script_text.specs.Spelling.{spelled}
 use Rattle.shared_store.proofs.Splitting.{decimal_without_space, some_space, before_first_space, behind_first_space}
 use Rattle.shared_store.proofs.command.read_put.Goals as goal
 

@@ -2,9 +2,13 @@
 use Rattle.std.specs.Prelude.{◌≡◌, ◌≢◌, ◌<◌, ◌==◌, ℕ, Bool, true, false, not, List, [], ◌∷◌, ◌++◌, length, slice_index, All, filter}
 use Rattle.std.specs.List.{flat_map}
 
+-- no byte of the text is this one
+abbrev pub Lacks : ℕ → List ℕ → Type 0
+Lacks mark text = (k : ℕ) → k < length text → slice_index text k ≢ mark
+
 -- no byte of the text is a line feed
 abbrev pub HasNoFeed : List ℕ → Type 0
-HasNoFeed text = (k : ℕ) → k < length text → slice_index text k ≢ 10
+HasNoFeed text = Lacks 10 text
 
 -- a line with its line feed
 abbrev pub ended : List ℕ → List ℕ

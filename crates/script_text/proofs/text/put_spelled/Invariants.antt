@@ -1,7 +1,7 @@
 use Rattle.std.proofs.Common.{◌≡◌, ◌+◌, ◌*◌, ◌≤◌, ◌++◌, take}
 use Rattle.arrayvec.specs.ArrayVec.{array_vec_len}
-use Rattle.shared_store.specs.Spelling.{spelled}
-use Rattle.shared_store.proofs.reply.put_spelled.Given as goal
+use Rattle.script_text.specs.Spelling.{spelled}
+use Rattle.script_text.proofs.text.put_spelled.Given as goal
 
 abbrev pub invariant-loop-b : goal.invariant-loop-b
 invariant-loop-b l = record {

@@ -4,7 +4,7 @@ use Rattle.std.specs.List.{flat_map}
 use Rattle.std.proofs.lemmas.List.{length-append, get_or_append_left, get_or_at, flat_map_more, append-nil}
 use Rattle.std.proofs.lemmas.List.Elements.{All-push, filter-append}
 use Rattle.std.proofs.lemmas.Bool.{cases_lt}
-use Rattle.shared_store.specs.Lines.{HasNoFeed, ended, Splits, with_rest, is_silent, answered}
+use Rattle.script_text.specs.Lines.{HasNoFeed, ended, Splits, with_rest, is_silent, answered}
 
 -- one more byte that is no line feed
 HasNoFeed-push : (text : List ℕ) (b : ℕ) → HasNoFeed text → b ≢ 10 → HasNoFeed (text ++ b ∷ [])

@@ -1,5 +1,5 @@
 ghost use Rattle.std.specs.Prelude.{◌≡◌, ◌/◌, ◌%◌, ◌<◌, ◌++◌, ℕ, false, List, IfSome, length};
-ghost use Rattle.shared_store.specs.Spelling.{is_plain, hex_digit, spelled_byte, spelled, AreBytes, IsValue, SpellsByte};
+ghost use Rattle.script_text.specs.Spelling.{is_plain, hex_digit, spelled_byte, spelled, AreBytes, IsValue, SpellsByte};
 
 use arrayvec::ArrayVec;
 use sd_base::Value;
@@ -62,7 +62,7 @@ fn escaped(high: u8, low: u8) -> Option<u8>
 }
 
 /// The value that a text spells.
-pub(crate) fn read_value(text: &[u8]) -> Option<Value>
+pub fn read_value(text: &[u8]) -> Option<Value>
     ensures found { IfSome result (λ v. IsValue v × (text.now ≡ spelled v)) }
     ensures only { (v : List ℕ) → IsValue v → text.now ≡ spelled v → result ≡ Some v }
 {

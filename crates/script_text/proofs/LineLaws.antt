@@ -1,7 +1,7 @@
 -- Each text splits into lines and a rest, in one way.
 use Rattle.std.proofs.Common.{◌≡◌, ◌≢◌, ℕ, suc, List, [], ◌∷◌, ◌++◌, ◌∙◌, sym, refl, arith, append_assoc, All}
 use Rattle.std.specs.List.{flat_map}
-use Rattle.shared_store.specs.Lines.{HasNoFeed, ended, Splits}
+use Rattle.script_text.specs.Lines.{HasNoFeed, ended, Splits}
 
 tail_free : (b : ℕ) (text : List ℕ) → HasNoFeed (b ∷ text) → HasNoFeed text
 tail_free b text h k lt = h (suc k) (omega arith)

@@ -3,9 +3,9 @@ use Rattle.std.proofs.lemmas.List.{take_rest, length-append, length-drop, drop-d
 use Rattle.std.proofs.lemmas.Bool.Decides.{nat_tests}
 use Rattle.std.proofs.lemmas.List.Elements.{All-push}
 use Rattle.std.proofs.Math.Seq.{take-add}
-use Rattle.shared_store.specs.Spelling.{spelled, spelled_byte, AreBytes}
-use Rattle.shared_store.proofs.SpellingLaws.{spelled-push, next_byte, no_byte}
-use Rattle.shared_store.proofs.spelling.read_value.Goals as goal
+use Rattle.script_text.specs.Spelling.{spelled, spelled_byte, AreBytes}
+use Rattle.script_text.proofs.SpellingLaws.{spelled-push, next_byte, no_byte}
+use Rattle.script_text.proofs.spelling.read_value.Goals as goal
 
 -- a value of few bytes is made
 value_is : (made : Option (List ℕ)) (s v : List ℕ) → (IsNone made → 248 < length s) → IfSome made (λ x. x ≡ s) → s ≡ v → length v ≤ 248 → made ≡ Some v

@@ -1,6 +1,6 @@
 use Rattle.std.proofs.Common.{◌≡◌, ◌≤◌, ◌-◌, ◌++◌, ℕ, List, length, take, drop}
-use Rattle.shared_store.specs.Spelling.{spelled, AreBytes, IsValue}
-use Rattle.shared_store.proofs.spelling.read_value.Given as goal
+use Rattle.script_text.specs.Spelling.{spelled, AreBytes, IsValue}
+use Rattle.script_text.proofs.spelling.read_value.Given as goal
 
 abbrev pub invariant-loop-at : goal.invariant-loop-at
 invariant-loop-at l = record {

@@ -3,7 +3,7 @@ use Rattle.std.proofs.Common.{◌≡◌, ◌*◌, ◌/◌, ◌%◌, ◌≤◌, �
 use Rattle.std.proofs.lemmas.Bool.{false≢true}
 use Rattle.std.proofs.lemmas.Bool.Decides.{nat_tests}
 use Rattle.std.proofs.lemmas.List.{length-append, append_assoc, append-nil, flat_map_more, get_or_at}
-use Rattle.shared_store.specs.Spelling.{is_plain, hex_digit, escaped_byte, spelled_byte, spelled, AreBytes}
+use Rattle.script_text.specs.Spelling.{is_plain, hex_digit, escaped_byte, spelled_byte, spelled, AreBytes}
 
 -- a byte takes from one to four places
 length-spelled_byte_by : (p : Bool) (b : ℕ) → (1 ≤ length (cond p (b ∷ []) (escaped_byte b))) × (length (cond p (b ∷ []) (escaped_byte b)) ≤ 4)
