@@ -1,3 +1,5 @@
+pub mod CutLaws
 pub mod LineLaws
-pub mod SpellingLaws
 pub mod Lining
+pub mod SpellingLaws
+pub mod WordLaws

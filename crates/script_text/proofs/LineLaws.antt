@@ -1,35 +1,19 @@
 -- Each text splits into lines and a rest, in one way.
-use Rattle.std.proofs.Common.{◌≡◌, ◌≢◌, ℕ, suc, List, [], ◌∷◌, ◌++◌, ◌∙◌, sym, refl, arith, append_assoc, All}
+use Rattle.std.proofs.Common.{◌≡◌, ℕ, suc, List, [], ◌∷◌, ◌++◌, ◌∙◌, sym, refl, arith, append_assoc, All}
 use Rattle.std.specs.List.{flat_map}
 use Rattle.script_text.specs.Lines.{HasNoFeed, ended, Splits}
-
-tail_free : (b : ℕ) (text : List ℕ) → HasNoFeed (b ∷ text) → HasNoFeed text
-tail_free b text h k lt = h (suc k) (omega arith)
-
-head_free : (b : ℕ) (text : List ℕ) → HasNoFeed (b ∷ text) → b ≢ 10
-head_free b text h = h 0 (omega arith)
+use Rattle.script_text.proofs.CutLaws.{heads, no_cut}
 
 tail_lines : (line : List ℕ) (lines : List (List ℕ)) → All HasNoFeed (line ∷ lines) → All HasNoFeed lines
 tail_lines line lines h k d lt = h (suc k) d (omega arith)
 
 -- the first line feed ends the first line
-pub line_heads : (a b xs ys : List ℕ) → HasNoFeed a → HasNoFeed b → ended a ++ xs ≡ ended b ++ ys → (a ≡ b) × (xs ≡ ys)
-line_heads [] [] xs ys ha hb e = (refl, cc)
-line_heads [] (d ∷ b) xs ys ha hb e = let h : d ≡ 10 = cc in absurd (head_free d b hb h)
-line_heads (c ∷ a) [] xs ys ha hb e = let h : c ≡ 10 = cc in absurd (head_free c a ha h)
-line_heads (c ∷ a) (d ∷ b) xs ys ha hb e =
-    let rest : ended a ++ xs ≡ ended b ++ ys = cc in
-    let tails = line_heads a b xs ys (tail_free c a ha) (tail_free d b hb) rest in
-    let first : c ≡ d = cc in
-    let line : a ≡ b = tails.0 in
-    (cc, tails.1)
+line_heads : (a b xs ys : List ℕ) → HasNoFeed a → HasNoFeed b → ended a ++ xs ≡ ended b ++ ys → (a ≡ b) × (xs ≡ ys)
+line_heads a b xs ys ha hb e = heads 10 a b xs ys ha hb (sym (append_assoc a (10 ∷ []) xs) ∙ e ∙ append_assoc b (10 ∷ []) ys)
 
 -- what isn't ended has no line
-pub no_line : (r b ys : List ℕ) → HasNoFeed r → r ≡ ended b ++ ys → ⊥
-no_line [] [] ys h e = cc
-no_line [] (d ∷ b) ys h e = cc
-no_line (c ∷ r) [] ys h e = let f : c ≡ 10 = cc in absurd (head_free c r h f)
-no_line (c ∷ r) (d ∷ b) ys h e = let rest : r ≡ ended b ++ ys = cc in no_line r b ys (tail_free c r h) rest
+no_line : (r b ys : List ℕ) → HasNoFeed r → r ≡ ended b ++ ys → ⊥
+no_line r b ys h e = no_cut 10 r b ys h (e ∙ append_assoc b (10 ∷ []) ys)
 
 one_way : (l m : List (List ℕ)) (r s : List ℕ) → All HasNoFeed l → All HasNoFeed m → HasNoFeed r → HasNoFeed s → flat_map ended l ++ r ≡ flat_map ended m ++ s → (l ≡ m) × (r ≡ s)
 one_way [] [] r s hl hm hr hs e = (refl, e)

@@ -1,3 +1,5 @@
 pub mod Lines
 pub mod Spelling
 pub mod Words
+pub mod Command
+pub mod Reading

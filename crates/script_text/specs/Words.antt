@@ -27,7 +27,7 @@ abbrev pub IsTxn : TxnId → Type 0
 IsTxn t = IsNode t.node × (t.seat ≤ 7)
 
 abbrev pub txn_word : TxnId → List ℕ
-txn_word t = node_word t.node ++ codes "." ++ decimal t.seat
+txn_word t = node_word t.node ++ (codes "." ++ decimal t.seat)
 
 -- a key
 abbrev pub IsKey : Key → Type 0

@@ -1,17 +1,23 @@
-//! The text of scripts and transcripts: how a text is split into lines, and how numbers and the bytes
-//! of a value are spelled.
+//! The text of scripts and transcripts: how a text is split into lines, which line spells which
+//! command, how the bytes of a value are spelled, and the line of each reply.
 //!
-//! It promises upward that a spelled number and a spelled value are read exactly, and written as
-//! they are spelled. It stands on `sd_base` for the values of records.
+//! It promises upward that a line is read as the one command that it spells, and as `Bad` exactly
+//! where it spells none (`read_line`), and that the line of a reply is exactly its text
+//! (`write_reply`). It stands on `sd_base` for the names of nodes, transactions, keys and pages.
 //! No function takes memory. The rules are in docs/COMMANDS.md.
 #![tactic(auto)]
 
+mod command;
 mod lines;
 mod numbers;
+mod read;
 mod spelling;
 mod text;
+mod words;
 
+pub use command::Command;
 pub use lines::law_of_one_splitting;
 pub use numbers::read_number;
+pub use read::{law_of_one_reading, read_line};
 pub use spelling::{law_of_one_spelling, read_value};
 pub use text::{ReplyText, put_number, put_spelled, put_text};

@@ -10,7 +10,9 @@ pub fn read_number(digits: &[u8], low: u64, high: u64) -> Option<u64>
     ensures only { (n : ℕ) → IsWithin low high n → digits.now ≡ decimal n → result ≡ Some n }
 {
     match parse(digits) {
-        Some(number) if is_number_in(number, low, high) && is_spelled(number, digits) => Some(number),
+        Some(number) if is_number_in(number, low, high) && is_spelled(number, digits) => Some(
+            number,
+        ),
         _ => None,
     }
 }
