@@ -3,3 +3,4 @@ pub mod Spelling
 pub mod Words
 pub mod Command
 pub mod Reading
+pub mod Reply

@@ -11,13 +11,17 @@ mod command;
 mod lines;
 mod numbers;
 mod read;
+mod reply;
 mod spelling;
 mod text;
 mod words;
+mod write;
 
 pub use command::Command;
 pub use lines::law_of_one_splitting;
 pub use numbers::read_number;
 pub use read::{law_of_one_reading, read_line};
+pub use reply::Reply;
 pub use spelling::{law_of_one_spelling, read_value};
 pub use text::{ReplyText, put_number, put_spelled, put_text};
+pub use write::write_reply;
