@@ -3,3 +3,5 @@ pub mod LineLaws
 pub mod Lining
 pub mod SpellingLaws
 pub mod WordLaws
+pub mod Spacing
+pub mod OneReading

@@ -16,11 +16,9 @@ use crate::words::{cut, read_key, read_node, read_txn};
 use sd_base::{Key, Shape, TxnId, Value};
 
 /// No line spells two commands.
-pub fn law_of_one_reading(line: &[u8])
-    ensures { (c d : Command) → Spells line.now c → Spells line.now d → c ≡ d }
-{
-    let _command = read_form(line);
-}
+pub fn law_of_one_reading()
+    ensures { (line : List ℕ) (c d : Command) → Spells line c → Spells line d → c ≡ d }
+{}
 
 /// Reads a line without its line feed. `Bad` exactly where the line spells no command.
 pub fn read_line(line: &[u8]) -> Command

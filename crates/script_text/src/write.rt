@@ -1,8 +1,8 @@
-ghost use Rattle.std.specs.Prelude.{◌≡◌, ◌≢◌, ◌+◌, ◌*◌, ◌≤◌, ◌++◌, [], length, codes};
+ghost use Rattle.std.specs.Prelude.{◌≡◌, ◌≢◌, ◌≤◌, ◌++◌, ◌∷◌, [], length, map, decimal};
 ghost use Rattle.arrayvec.specs.ArrayVec.{array_vec_len};
-ghost use Rattle.script_text.specs.Reply.{numbers_text, reply_words, reply_text};
+ghost use Rattle.script_text.specs.Reply.{reply_words, reply_text};
 ghost use Rattle.script_text.specs.Spelling.{spelled};
-ghost use Rattle.script_text.specs.Words.{txn_word};
+ghost use Rattle.script_text.specs.Words.{spaced, txn_word};
 
 use crate::reply::Reply;
 use crate::text::{ReplyText, put_number, put_spelled, put_text};
@@ -22,7 +22,7 @@ pub fn write_reply(r: &Reply, out: &mut ReplyText)
 fn put_words(r: &Reply, out: &mut ReplyText)
     requires empty { out.old.items ≡ [] }
     requires printed { r.now ≢ Reply.NoMore }
-    ensures items { out.new.items ≡ reply_words r.now }
+    ensures items { out.new.items ≡ spaced (reply_words r.now) }
     ensures len { array_vec_len out.new ≤ 1099 }
 {
     match *r {
@@ -45,9 +45,9 @@ fn put_words(r: &Reply, out: &mut ReplyText)
         Reply::NoNode(node) => put_numbers(out, b"nonode", &[u64::from(node.0)]),
         Reply::NotUp(node) => put_numbers(out, b"notup", &[u64::from(node.0)]),
         Reply::NotIdle(node) => put_numbers(out, b"notidle", &[u64::from(node.0)]),
-        Reply::Busy(txn) => put_txn(out, b"busy ", txn),
-        Reply::NotTxn(txn) => put_txn(out, b"notxn ", txn),
-        Reply::Locked(txn) => put_txn(out, b"locked ", txn),
+        Reply::Busy(txn) => put_txn(out, b"busy", txn),
+        Reply::NotTxn(txn) => put_txn(out, b"notxn", txn),
+        Reply::Locked(txn) => put_txn(out, b"locked", txn),
         Reply::LocksFull => put_text(out, b"locksfull"),
         Reply::LostPage(page) => put_numbers(out, b"lost", &[u64::from(page.0)]),
         Reply::Limit(page) => put_numbers(out, b"limit", &[u64::from(page.0)]),
@@ -60,11 +60,12 @@ fn put_words(r: &Reply, out: &mut ReplyText)
     }
 }
 
-/// Writes words, and numbers with a space before each.
+/// Writes words and numbers, with a space before each number.
 fn put_numbers(out: &mut ReplyText, words: &[u8], numbers: &[u64])
-    requires room { array_vec_len out.old + length words.now ≤ 20 }
+    requires empty { out.old.items ≡ [] }
+    requires short { length words.now ≤ 20 }
     requires few { length numbers.now ≤ 3 }
-    ensures items { out.new.items ≡ out.old.items ++ words.now ++ numbers_text numbers.now }
+    ensures items { out.new.items ≡ spaced (words.now ∷ map decimal numbers.now) }
     ensures len { array_vec_len out.new ≤ 83 }
 {
     put_text(out, words);
@@ -74,26 +75,29 @@ fn put_numbers(out: &mut ReplyText, words: &[u8], numbers: &[u64])
     }
 }
 
-/// Writes words and a transaction.
-fn put_txn(out: &mut ReplyText, words: &[u8], txn: TxnId)
-    requires { array_vec_len out.old + length words.now ≤ 20 }
-    ensures items { out.new.items ≡ out.old.items ++ words.now ++ txn_word txn }
+/// Writes a word, a space and a transaction.
+fn put_txn(out: &mut ReplyText, word: &[u8], txn: TxnId)
+    requires empty { out.old.items ≡ [] }
+    requires short { length word.now ≤ 20 }
+    ensures items { out.new.items ≡ spaced (word.now ∷ txn_word txn ∷ []) }
     ensures len { array_vec_len out.new ≤ 83 }
 {
-    put_text(out, words);
+    put_text(out, word);
+    put_text(out, b" ");
     put_number(out, u64::from(txn.node.0));
     put_text(out, b".");
     put_number(out, u64::from(txn.seat));
 }
 
-/// Writes words, numbers, a space and the spelling of a value.
-fn put_value(out: &mut ReplyText, words: &[u8], numbers: &[u64], value: &Value)
-    requires room { array_vec_len out.old + length words.now ≤ 20 }
+/// Writes a word, numbers and the spelling of a value, with a space before each.
+fn put_value(out: &mut ReplyText, word: &[u8], numbers: &[u64], value: &Value)
+    requires empty { out.old.items ≡ [] }
+    requires short { length word.now ≤ 20 }
     requires few { length numbers.now ≤ 3 }
-    ensures items { out.new.items ≡ out.old.items ++ words.now ++ numbers_text numbers.now ++ codes " " ++ spelled value.now }
+    ensures items { out.new.items ≡ spaced (word.now ∷ map decimal numbers.now ++ spelled value.now ∷ []) }
     ensures len { array_vec_len out.new ≤ 1099 }
 {
-    put_numbers(out, words, numbers);
+    put_numbers(out, word, numbers);
     put_text(out, b" ");
     put_spelled(out, value.as_slice());
 }
