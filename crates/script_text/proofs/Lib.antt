@@ -5,3 +5,4 @@ pub mod SpellingLaws
 pub mod WordLaws
 pub mod Spacing
 pub mod OneReading
+pub mod LineLengths

@@ -20,7 +20,7 @@ mod write;
 pub use command::Command;
 pub use lines::law_of_one_splitting;
 pub use numbers::read_number;
-pub use read::{law_of_one_reading, read_line};
+pub use read::{law_of_one_reading, law_of_short_lines, read_line};
 pub use reply::Reply;
 pub use spelling::{law_of_one_spelling, read_value};
 pub use text::{ReplyText, put_number, put_spelled, put_text};

@@ -1,4 +1,4 @@
-ghost use Rattle.std.specs.Prelude.{◌≡◌, ℕ, List, [], ◌∷◌, Some, IfSome, IsTrue, ◌↔◌};
+ghost use Rattle.std.specs.Prelude.{◌≡◌, ◌≤◌, ℕ, List, [], ◌∷◌, length, Some, IfSome, IsTrue, ◌↔◌};
 ghost use Rattle.sd_base.specs.Shape.{IsShape};
 ghost use Rattle.sd_base.specs.declared.names.Key.{Key};
 ghost use Rattle.sd_base.specs.declared.names.TxnId.{TxnId};
@@ -18,6 +18,11 @@ use sd_base::{Key, Shape, TxnId, Value};
 /// No line spells two commands.
 pub fn law_of_one_reading()
     ensures { (line : List ℕ) (c d : Command) → Spells line c → Spells line d → c ≡ d }
+{}
+
+/// No command's line is longer than 1,015 bytes.
+pub fn law_of_short_lines()
+    ensures { (line : List ℕ) (c : Command) → Spells line c → length line ≤ 1015 }
 {}
 
 /// Reads a line without its line feed. `Bad` exactly where the line spells no command.
