@@ -1,10 +1,9 @@
 -- A text is cut at its first such byte, in one way.
-use Rattle.std.proofs.Common.{◌≡◌, ◌≢◌, ◌+◌, ◌<◌, ◌∙◌, ℕ, zero, suc, List, [], ◌∷◌, ◌++◌, length, get_or, take, drop, sym, ap, refl, add-one, arith}
+use Rattle.std.proofs.Common.{◌≡◌, ◌≢◌, ◌+◌, ◌∙◌, ℕ, zero, suc, List, [], ◌∷◌, ◌++◌, take, drop, sym, ap, refl, add-one, arith}
 use Rattle.std.proofs.lemmas.List.{get_or-take, take-append-drop, length-take}
 use Rattle.std.proofs.Math.Seq.{drop-cons}
 use Rattle.script_text.specs.Lines.{Lacks}
-use Rattle.script_text.specs.Words.{IsCut}
-use Rattle.script_text.specs.Reading.{IsFirst}
+use Rattle.script_text.specs.Reading.{IsCut, IsFirst}
 
 pub Lacks-tail : (mark b : ℕ) (text : List ℕ) → Lacks mark (b ∷ text) → Lacks mark text
 Lacks-tail mark b text h k lt = h (suc k) (omega arith)

@@ -1,5 +1,5 @@
 -- How long the line of a command is.
-use Rattle.std.proofs.Common.{◌≡◌, ◌+◌, ◌*◌, ◌≤◌, ◌<◌, ◌^◌, ℕ, List, [], ◌∷◌, ◌++◌, length, decimal, codes, ap, lit≤, arith}
+use Rattle.std.proofs.Common.{◌≡◌, ◌+◌, ◌≤◌, ℕ, List, [], ◌∷◌, ◌++◌, length, decimal, ap, lit≤, arith}
 use Rattle.std.proofs.lemmas.Fmt.{length-decimal-le}
 use Rattle.std.proofs.lemmas.List.{length-append}
 use Rattle.sd_base.specs.Shape.{IsShape}
@@ -45,7 +45,7 @@ length-shape s h = omega (
   length-decimal-le 20 s.ring (omega arith) (omega (arith, h.ring)) (omega (arith, h.ring)),
   length-decimal-le 20 s.maps (omega arith) (omega (arith, h.maps)) (omega (arith, h.maps)),
   length-decimal-le 20 s.keep (omega arith) (omega (arith, h.keep)) (omega (arith, h.keep)),
-  length-decimal-le 20 s.birth (omega arith) (omega (arith, h.birth)) (omega (arith, h.birth))
+  length-decimal-le 20 s.birth (omega arith) (omega (arith, h.birth)) (omega (arith, h.birth)),
 )
 
 length-arguments : (c : Command) → IsCommand c → length (spaced (arguments c)) ≤ 1008

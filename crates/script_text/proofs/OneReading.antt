@@ -1,11 +1,10 @@
 -- No line spells two commands, and none that spells one is long.
-use Rattle.std.proofs.Common.{◌≡◌, ◌≢◌, ◌+◌, ◌≤◌, ◌<◌, ◌^◌, ◌∙◌, ℕ, Bool, true, false, not, ◌&&◌, eqb, eq-eqb, List, [], ◌∷◌, ◌++◌, length, decimal, codes, sym, ap, refl, arith}
+use Rattle.std.proofs.Common.{◌≡◌, ◌∙◌, ℕ, Bool, true, false, not, ◌&&◌, eqb, eq-eqb, List, [], ◌∷◌, ◌++◌, decimal, codes, sym, ap, refl, arith}
 use Rattle.std.specs.List.{list_all}
 use Rattle.std.specs.Str.{bytes_eq}
 use Rattle.std.proofs.lemmas.Slice.Eq.{bytes_eq-Decides}
 use Rattle.std.proofs.lemmas.Bool.{false≢true}
-use Rattle.std.proofs.lemmas.Fmt.{decimal_injective, length-decimal-le}
-use Rattle.std.proofs.lemmas.List.{length-append}
+use Rattle.std.proofs.lemmas.Fmt.{decimal_injective}
 use Rattle.sd_base.specs.Shape.{IsShape}
 use Rattle.sd_base.specs.declared.device.NodeId.{NodeId}
 use Rattle.sd_base.specs.declared.names.Key.{Key}
@@ -18,7 +17,7 @@ use Rattle.script_text.specs.Command.{form_name, arguments, IsCommand, Spells}
 use Rattle.script_text.specs.declared.command.Command.{Command}
 use Rattle.script_text.specs.declared.command.Command.TheVariants.{Bad, Format, Start, Begin, Get, Put, Append, Del, Commit, Abort, Flush, Dump, Stat}
 use Rattle.script_text.proofs.CutLaws.{Lacks-none, Lacks-cons, heads}
-use Rattle.script_text.proofs.SpellingLaws.{spelled-injective, length-spelled-le}
+use Rattle.script_text.proofs.SpellingLaws.{spelled-injective}
 use Rattle.script_text.proofs.WordLaws.{number_without_space, number_without_point, txn_without_space, key_without_space, txn, shape}
 
 -- by a test of each byte
@@ -37,10 +36,10 @@ apart a b e differ = false≢true (sym differ ∙ (bytes_eq-Decides a b).1 e)
 -- the name of a form has no space, and other words stand behind it
 pub name_without_space : (c : Command) → Lacks 32 (form_name c)
 name_without_space c = lacks_by 32 (form_name c) (tested c)
-    where
-      tested : (d : Command) → list_all (λ b. not (eqb b 32)) (form_name d) ≡ true
-      tested Bad = refl
-      tested d = refl
+  where
+    tested : (d : Command) → list_all (λ b. not (eqb b 32)) (form_name d) ≡ true
+    tested Bad = refl
+    tested d = refl
 
 pub line_parts : (c : Command) → IsCommand c → spaced (form_name c ∷ arguments c) ≡ form_name c ++ 32 ∷ spaced (arguments c)
 line_parts Bad h = absurd h

@@ -1,5 +1,5 @@
 -- Words have no space.
-use Rattle.std.proofs.Common.{◌≡◌, ◌≢◌, ◌≤◌, ◌<◌, ◌^◌, ℕ, zero, suc, List, [], ◌∷◌, Some, decimal, subst, arith}
+use Rattle.std.proofs.Common.{◌≡◌, ◌≤◌, ◌<◌, ◌^◌, ℕ, List, [], ◌∷◌, Some, decimal, subst, arith}
 use Rattle.std.specs.Str.Parse.{AllDigits}
 use Rattle.std.specs.Char.{digit_value}
 use Rattle.std.proofs.lemmas.Fmt.{decimal_is_IsNumeral}
@@ -9,7 +9,8 @@ use Rattle.sd_base.specs.declared.names.TxnId.{TxnId}
 use Rattle.sd_base.specs.declared.shape.Shape.{Shape}
 use Rattle.sd_base.specs.Shape.{IsShape}
 use Rattle.script_text.specs.Lines.{Lacks}
-use Rattle.script_text.specs.Words.{spaced, IsCut, IsTxn, node_word, txn_word, IsKey, key_word, shape_words}
+use Rattle.script_text.specs.Words.{spaced, IsTxn, node_word, txn_word, IsKey, key_word, shape_words}
+use Rattle.script_text.specs.Reading.{IsCut}
 use Rattle.script_text.proofs.CutLaws.{Lacks-none, Lacks-cons, Lacks-append}
 
 digits_lack : (mark : ℕ) → 10 ≤ digit_value mark → (ds : List ℕ) → AllDigits 10 ds → Lacks mark ds

@@ -1,5 +1,5 @@
 -- Which line spells which command.
-use Rattle.std.specs.Prelude.{◌≡◌, ℕ, List, [], ◌∷◌, codes, decimal}
+use Rattle.std.specs.Prelude.{◌≡◌, ℕ, List, [], ◌∷◌, codes}
 use Rattle.sd_base.specs.Shape.{IsShape}
 use Rattle.script_text.specs.Spelling.{spelled, IsValue}
 use Rattle.script_text.specs.Words.{spaced, IsNode, node_word, IsTxn, txn_word, IsKey, key_word, shape_words}

@@ -1,11 +1,10 @@
 -- The words of lines and replies.
-use Rattle.std.specs.Prelude.{◌≡◌, ◌≢◌, ◌≤◌, ◌<◌, ℕ, List, ◌++◌, [], ◌∷◌, codes, decimal, length, slice_index}
+use Rattle.std.specs.Prelude.{◌≤◌, ℕ, List, [], ◌∷◌, ◌++◌, codes, decimal}
 use Rattle.std.specs.List.{join_with_byte}
 use Rattle.sd_base.specs.declared.device.NodeId.{NodeId}
 use Rattle.sd_base.specs.declared.names.Key.{Key}
 use Rattle.sd_base.specs.declared.names.TxnId.{TxnId}
 use Rattle.sd_base.specs.declared.shape.Shape.{Shape}
-use Rattle.script_text.specs.Lines.{Lacks}
 
 -- a number from the one to the other
 abbrev pub IsWithin : ℕ → ℕ → ℕ → Type 0
@@ -35,11 +34,6 @@ IsKey k = k.0 ≤ 4294967295
 
 abbrev pub key_word : Key → List ℕ
 key_word k = decimal k.0
-
--- the text is cut at its first such byte
-pub record IsCut (mark : ℕ) (text front back : List ℕ) : Type 0 where
-  pub whole : text ≡ front ++ mark ∷ back
-  pub first : Lacks mark front
 
 -- the numbers of a shape
 abbrev pub shape_words : Shape → List (List ℕ)

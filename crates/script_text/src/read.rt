@@ -45,6 +45,7 @@ fn read_form(line: &[u8]) -> Option<Command>
     read_arguments(name, rest)
 }
 
+/// Whether a text is this word.
 fn is_word(text: &[u8], word: &[u8]) -> bool
     ensures { IsTrue result ↔ (text.now ≡ word.now) }
 {

@@ -3,8 +3,8 @@ ghost use Rattle.sd_base.specs.declared.device.NodeId.{NodeId};
 ghost use Rattle.sd_base.specs.declared.names.Key.{Key};
 ghost use Rattle.sd_base.specs.declared.names.TxnId.{TxnId};
 ghost use Rattle.script_text.specs.Lines.{Lacks};
-ghost use Rattle.script_text.specs.Reading.{IsFirst};
-ghost use Rattle.script_text.specs.Words.{IsCut, IsNode, node_word, IsTxn, txn_word, IsKey, key_word};
+ghost use Rattle.script_text.specs.Reading.{IsCut, IsFirst};
+ghost use Rattle.script_text.specs.Words.{IsNode, node_word, IsTxn, txn_word, IsKey, key_word};
 
 use crate::numbers::read_number;
 use sd_base::{Key, NodeId, TxnId};
@@ -17,8 +17,9 @@ fn first_place(text: &[u8], mark: u8) -> Option<usize>
     text.iter().position(|b| *b == mark)
 }
 
-/// What stands in front of the first such byte of a text, and behind it.
-pub(crate) fn cut(text: &[u8], mark: u8) -> Option<(&[u8], &[u8])>
+/// What stands in front of the first such byte of a text, and behind it. `None` exactly where the text
+/// has none.
+pub fn cut(text: &[u8], mark: u8) -> Option<(&[u8], &[u8])>
     ensures found { IfSome result (λ parts. IsCut mark text.now parts.0.now parts.1.now) }
     ensures only { (front back : List ℕ) → IsCut mark text.now front back
         → IsSomeAnd result (λ parts. (parts.0.now ≡ front) × (parts.1.now ≡ back)) }

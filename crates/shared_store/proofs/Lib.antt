@@ -1,4 +1,3 @@
-mod Splitting
 mod CommandLength
 mod Running
 mod Serving

@@ -1,7 +1,7 @@
-ghost use Rattle.std.specs.Prelude.{◌≡◌, ℕ, decimal, IfSome, IfNone};
-ghost use Rattle.shared_store.specs.Command.{Means, HasKey, MeansGet, MeansPut, IsKey, IsFirstSpace, HasNoSpace};
+ghost use Rattle.std.specs.Prelude.{◌≡◌, ℕ, decimal, IfSome};
+ghost use Rattle.shared_store.specs.Command.{Means, HasKey, MeansGet, MeansPut, IsKey};
 
-use script_text::{read_number, read_value};
+use script_text::{cut, read_number, read_value};
 use sd_base::{Key, Value};
 
 /// What a line asks for.
@@ -51,24 +51,16 @@ fn read_get(rest: &[u8]) -> Command
 fn read_put(rest: &[u8]) -> Command
     ensures { MeansPut rest.now result }
 {
-    let Some(end) = first_space(rest) else {
+    let Some((key, value)) = cut(rest, b' ') else {
         return Command::Bad;
     };
-    let Some(key) = read_key(&rest[..end]) else {
+    let Some(key) = read_key(key) else {
         return Command::Bad;
     };
-    let Some(value) = read_value(&rest[end + 1..]) else {
+    let Some(value) = read_value(value) else {
         return Command::Bad;
     };
     Command::Put(key, value)
-}
-
-/// The place of the first space.
-fn first_space(text: &[u8]) -> Option<usize>
-    ensures found { IfSome result (IsFirstSpace text.now) }
-    ensures none { IfNone result (HasNoSpace text.now) }
-{
-    text.iter().position(|b| *b == b' ')
 }
 
 /// The key that these digits spell.

@@ -1,4 +1,3 @@
-use Rattle.std.proofs.Common.{arith}
 use Rattle.script_text.specs.Words.{txn_word, key_word}
 use Rattle.script_text.proofs.WordLaws.{txn_without_space}
 use Rattle.script_text.proofs.read.read_record.Goals as goal

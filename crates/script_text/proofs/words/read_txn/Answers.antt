@@ -1,6 +1,5 @@
 use Rattle.std.proofs.Common.{decimal, arith}
-use Rattle.sd_base.specs.declared.names.TxnId.{TxnId}
-use Rattle.script_text.specs.Words.{IsCut, IsTxn, node_word, txn_word}
+use Rattle.script_text.specs.Words.{node_word}
 use Rattle.script_text.proofs.WordLaws.{number_without_point, txn_of}
 use Rattle.script_text.proofs.words.read_txn.Goals as goal
 
