@@ -3,8 +3,8 @@ use Rattle.std.proofs.Common.{◌≤◌, ◌++◌, ℕ, List, length, codes, dec
 use Rattle.std.proofs.lemmas.List.{length-append}
 use Rattle.std.proofs.lemmas.Fmt.{length-decimal-le}
 use Rattle.shared_store.specs.Command.{Spells}
-use Rattle.shared_store.specs.Spelling.{spelled}
-use Rattle.shared_store.proofs.SpellingLaws.{length-spelled-le}
+use Rattle.script_text.specs.Spelling.{spelled}
+use Rattle.script_text.proofs.SpellingLaws.{length-spelled-le}
 use Rattle.shared_store.specs.declared.command.Command.{Command}
 use Rattle.shared_store.specs.declared.command.Command.TheVariants.{Bad, Format, Get, Put}
 

@@ -1,8 +1,4 @@
-mod Splitting
-mod SpellingLaws
 mod CommandLength
-mod LineLaws
-mod Lining
 mod Running
 mod Serving
 mod Paging

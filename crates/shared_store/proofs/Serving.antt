@@ -6,7 +6,7 @@ use Rattle.sd_base.specs.Faults.{Grew}
 use Rattle.sd_base.specs.Stream.{SinkState}
 use Rattle.shared_store.specs.Command.{Means}
 use Rattle.shared_store.specs.Device.{IsQuiet}
-use Rattle.shared_store.specs.Lines.{is_silent, answered, EndsLine}
+use Rattle.script_text.specs.Lines.{is_silent, answered, EndsLine}
 use Rattle.shared_store.specs.LineBuffer.{HoldsLine}
 use Rattle.shared_store.specs.Output.{IsPart}
 use Rattle.shared_store.specs.Records.{Seal, StoreState, shut, opened, Answers, after, Run}
@@ -18,7 +18,7 @@ use Rattle.shared_store.specs.Serving.{Served}
 use Rattle.shared_store.specs.declared.command.Command.{Command}
 use Rattle.shared_store.specs.declared.line.LineBuffer.{LineBuffer}
 use Rattle.shared_store.specs.declared.reply.Reply.{Reply}
-use Rattle.shared_store.proofs.Lining.{Splits-none, Splits-byte, Splits-line, answered-silent, answered-spoken, answered-with_rest}
+use Rattle.script_text.proofs.Lining.{Splits-none, Splits-byte, Splits-line, answered-silent, answered-spoken, answered-with_rest}
 use Rattle.shared_store.proofs.Running.{Run-more, AreCounted-none, AreCounted-more}
 
 -- what an open or closed store shows, the device is left with

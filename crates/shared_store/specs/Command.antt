@@ -1,6 +1,6 @@
 -- How lines spell commands.
-use Rattle.std.specs.Prelude.{◌≡◌, ◌≢◌, ◌≤◌, ℕ, List, ◌++◌, length, codes, decimal, slice_index, ◌<◌}
-use Rattle.shared_store.specs.Spelling.{spelled, IsValue}
+use Rattle.std.specs.Prelude.{◌≡◌, ◌≢◌, ◌≤◌, ℕ, List, ◌++◌, codes, decimal}
+use Rattle.script_text.specs.Spelling.{spelled, IsValue}
 use Rattle.shared_store.specs.declared.command.Command.{Command}
 use Rattle.shared_store.specs.declared.command.Command.TheVariants.{Bad, Format, Get, Put}
 
@@ -35,16 +35,6 @@ MeansPut rest Bad = (k : ℕ) (v : List ℕ) → IsKey k → IsValue v → rest 
 MeansPut rest Format = ⊥
 MeansPut rest (Get key) = ⊥
 MeansPut rest (Put key v) = IsKey key.0 × IsValue v × (rest ≡ decimal key.0 ++ (codes " " ++ spelled v))
-
--- no byte of the text is a space
-abbrev pub HasNoSpace : List ℕ → Type 0
-HasNoSpace text = (k : ℕ) → k < length text → slice_index text k ≢ 32
-
--- the first space of the text stands there
-pub record IsFirstSpace (text : List ℕ) (place : ℕ) : Type 0 where
-  pub within : place < length text
-  pub here : slice_index text place ≡ 32
-  pub before : (k : ℕ) → k < place → slice_index text k ≢ 32
 
 -- the key of a command is a key of the store
 abbrev pub HasKey : Command → Type 0

@@ -1,4 +1,3 @@
-pub mod Spelling
 pub mod Command
 pub mod Reply
 pub mod LineBuffer
@@ -6,7 +5,6 @@ pub mod Output
 pub mod Device
 pub mod Records
 pub mod Tie
-pub mod Lines
 pub mod Transcript
 pub mod Serving
 pub mod Job

@@ -1,6 +1,6 @@
 -- The texts of replies: one line each.
 use Rattle.std.specs.Prelude.{ℕ, List, ◌++◌, codes, decimal}
-use Rattle.shared_store.specs.Spelling.{spelled}
+use Rattle.script_text.specs.Spelling.{spelled}
 use Rattle.shared_store.specs.declared.reply.Reply.{Reply}
 use Rattle.shared_store.specs.declared.reply.Reply.TheVariants.{Fine, Found, Absent, Bad, Closed, Formatted, SmallDisk, LostPage, Limit, Stopped, Fault, DamagedDisk}
 

@@ -2,7 +2,7 @@
 use Rattle.std.specs.Prelude.{◌≡◌, ℕ, Bool, List, ◌++◌}
 use Rattle.sd_base.specs.Disk.{DiskState}
 use Rattle.sd_base.specs.Stream.{SinkState}
-use Rattle.shared_store.specs.Lines.{Splits, answered}
+use Rattle.script_text.specs.Lines.{Splits, answered}
 use Rattle.shared_store.specs.LineBuffer.{HoldsLine}
 use Rattle.shared_store.specs.Records.{StoreState, Run}
 use Rattle.shared_store.specs.Tie.{Shows}

@@ -2,7 +2,7 @@
 use Rattle.std.specs.Prelude.{◌≡◌, ◌+◌, ◌-◌, ◌≤◌, ◌^◌, ℕ, Bool, true, false, List, [], ◌∷◌, ◌++◌, take, min, count_by, All}
 use Rattle.std.specs.List.{flat_map}
 use Rattle.sd_base.specs.Disk.{BlockState, DiskState}
-use Rattle.shared_store.specs.Lines.{Splits, ended, HasNoFeed, EndsLine, lines_read, answered}
+use Rattle.script_text.specs.Lines.{Splits, ended, HasNoFeed, EndsLine, lines_read, answered}
 use Rattle.shared_store.specs.Records.{StoreState, shut, opened, Run}
 use Rattle.shared_store.specs.Reply.{reply_text}
 use Rattle.shared_store.specs.Device.{IsQuiet}

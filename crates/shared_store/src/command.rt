@@ -1,8 +1,7 @@
-ghost use Rattle.std.specs.Prelude.{◌≡◌, ℕ, decimal, IfSome, IfNone};
-ghost use Rattle.shared_store.specs.Command.{Means, HasKey, MeansGet, MeansPut, IsKey, IsFirstSpace, HasNoSpace};
+ghost use Rattle.std.specs.Prelude.{◌≡◌, ℕ, decimal, IfSome};
+ghost use Rattle.shared_store.specs.Command.{Means, HasKey, MeansGet, MeansPut, IsKey};
 
-use crate::numbers::read_number;
-use crate::spelling::read_value;
+use script_text::{cut, read_number, read_value};
 use sd_base::{Key, Value};
 
 /// What a line asks for.
@@ -19,7 +18,7 @@ pub enum Command {
 }
 
 /// The greatest key.
-const LAST_KEY: u32 = 4031;
+const LAST_KEY: u64 = 4031;
 
 /// Reads a line without its line feed. `Bad` exactly where the line spells no command.
 pub fn read_line(line: &[u8]) -> Command
@@ -52,24 +51,16 @@ fn read_get(rest: &[u8]) -> Command
 fn read_put(rest: &[u8]) -> Command
     ensures { MeansPut rest.now result }
 {
-    let Some(end) = first_space(rest) else {
+    let Some((key, value)) = cut(rest, b' ') else {
         return Command::Bad;
     };
-    let Some(key) = read_key(&rest[..end]) else {
+    let Some(key) = read_key(key) else {
         return Command::Bad;
     };
-    let Some(value) = read_value(&rest[end + 1..]) else {
+    let Some(value) = read_value(value) else {
         return Command::Bad;
     };
     Command::Put(key, value)
-}
-
-/// The place of the first space.
-fn first_space(text: &[u8]) -> Option<usize>
-    ensures found { IfSome result (IsFirstSpace text.now) }
-    ensures none { IfNone result (HasNoSpace text.now) }
-{
-    text.iter().position(|b| *b == b' ')
 }
 
 /// The key that these digits spell.
@@ -77,10 +68,6 @@ fn read_key(digits: &[u8]) -> Option<Key>
     ensures found { IfSome result (λ key. IsKey key.0 × (digits.now ≡ decimal key.0)) }
     ensures only { (k : ℕ) → IsKey k → digits.now ≡ decimal k → result ≡ Some (record { 0 = k }) }
 {
-    let number = read_number(digits)?;
-    if number <= LAST_KEY {
-        Some(Key(number))
-    } else {
-        None
-    }
+    let number = read_number(digits, 0, LAST_KEY)?;
+    Some(Key(number as u32))
 }

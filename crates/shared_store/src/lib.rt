@@ -12,17 +12,13 @@ mod command;
 mod device;
 mod format;
 mod line;
-mod numbers;
 mod output;
 mod record;
 mod reply;
 mod script;
 mod session;
-mod spelling;
 mod store;
 
 pub use command::{Command, read_line};
-pub use line::law_of_one_splitting;
-pub use reply::{Reply, ReplyText, write_reply};
+pub use reply::{Reply, write_reply};
 pub use script::{Status, run};
-pub use spelling::law_of_one_spelling;

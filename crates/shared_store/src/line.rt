@@ -1,19 +1,13 @@
 ghost use Rattle.std.specs.Prelude.{◌≡◌, ◌++◌, ◌∷◌, [], ℕ, List};
 ghost use Rattle.shared_store.specs.Command.{Means, HasKey};
 ghost use Rattle.shared_store.specs.LineBuffer.{HoldsLine};
-ghost use Rattle.shared_store.specs.Lines.{Splits, is_silent};
+ghost use Rattle.script_text.specs.Lines.{is_silent};
 
 use crate::command::{Command, read_line};
 use arrayvec::ArrayVec;
 
 /// The longest line that is read, without its line feed.
 pub(crate) const MAX_LINE: usize = 1024;
-
-/// A text splits into lines and a rest in one way.
-pub fn law_of_one_splitting()
-    ensures { (text : List ℕ) (lines others : List (List ℕ)) (rest other : List ℕ)
-        → Splits text lines rest → Splits text others other → (lines ≡ others) × (rest ≡ other) }
-{}
 
 /// The line that is being read. Of a line that is too long its first bytes are kept, so a line of
 /// any length takes the same room.

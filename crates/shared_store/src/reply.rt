@@ -1,12 +1,10 @@
-ghost use Rattle.std.specs.Prelude.{◌≡◌, ◌+◌, ◌*◌, ◌≤◌, ◌++◌, [], length, decimal, codes};
+ghost use Rattle.std.specs.Prelude.{◌≡◌, ◌+◌, ◌≤◌, ◌++◌, [], length, decimal, codes};
 ghost use Rattle.arrayvec.specs.ArrayVec.{array_vec_len};
 ghost use Rattle.shared_store.specs.Reply.{reply_text};
-ghost use Rattle.shared_store.specs.Spelling.{spelled, spelled_byte};
+ghost use Rattle.script_text.specs.Spelling.{spelled};
 ghost use Rattle.shared_store.specs.FaultReply.{fault_reply};
 
-use crate::spelling::{hex_digit, is_plain};
-use arrayvec::ArrayVec;
-use itoa::Buffer;
+use script_text::{ReplyText, put_number, put_spelled, put_text};
 use sd_base::{BlockNo, DevFault, NodeId, PageNo, Value};
 
 /// What a line is answered.
@@ -37,9 +35,6 @@ pub enum Reply {
     /// The block isn't what belongs there.
     DamagedDisk(BlockNo),
 }
-
-/// Room for the text of the longest reply.
-pub type ReplyText = ArrayVec<u8, 1100>;
 
 /// Writes the reply's line, with its line feed.
 pub fn write_reply(reply: &Reply, out: &mut ReplyText)
@@ -73,30 +68,6 @@ fn put_value(out: &mut ReplyText, value: &Value)
     put_spelled(out, value.as_slice());
 }
 
-/// Writes the spelling of bytes.
-fn put_spelled(out: &mut ReplyText, bytes: &[u8])
-    requires { array_vec_len out.old + 4 * length bytes.now ≤ 1100 }
-    ensures items { out.new.items ≡ out.old.items ++ spelled bytes.now }
-    ensures len { array_vec_len out.new ≤ array_vec_len out.old + 4 * length bytes.now }
-{
-    for b in bytes {
-        put_byte(out, *b);
-    }
-}
-
-/// Writes the spelling of a byte.
-fn put_byte(out: &mut ReplyText, b: u8)
-    requires { array_vec_len out.old + 4 ≤ 1100 }
-    ensures items { out.new.items ≡ out.old.items ++ spelled_byte b }
-    ensures len { array_vec_len out.new ≤ array_vec_len out.old + 4 }
-{
-    if is_plain(b) {
-        out.push(b);
-    } else {
-        put_text(out, &[b'\\', b'x', hex_digit(b / 16), hex_digit(b % 16)]);
-    }
-}
-
 /// Writes words, a space and a number.
 fn put_one(out: &mut ReplyText, words: &[u8], number: u32)
     requires { array_vec_len out.old + length words.now ≤ 100 }
@@ -119,23 +90,6 @@ fn put_two(out: &mut ReplyText, words: &[u8], first: u64, second: u32)
     put_number(out, first);
     put_text(out, b" ");
     put_number(out, u64::from(second));
-}
-
-fn put_text(out: &mut ReplyText, text: &[u8])
-    requires { array_vec_len out.old + length text.now ≤ 1100 }
-    ensures items { out.new.items ≡ out.old.items ++ text.now }
-    ensures len { array_vec_len out.new ≡ array_vec_len out.old + length text.now }
-{
-    out.try_extend_from_slice(text).unwrap();
-}
-
-fn put_number(out: &mut ReplyText, n: u64)
-    requires { array_vec_len out.old + 20 ≤ 1100 }
-    ensures items { out.new.items ≡ out.old.items ++ decimal n }
-    ensures len { array_vec_len out.new ≤ array_vec_len out.old + 20 }
-{
-    let mut buffer = Buffer::new();
-    put_text(out, buffer.format(n).as_bytes());
 }
 
 /// What is answered where a device gives up. A lost block that is no page counts as damaged.

@@ -4,13 +4,14 @@ ghost use Rattle.shared_store.specs.Device.{IsQuiet};
 ghost use Rattle.shared_store.specs.Output.{StaysFlushed};
 ghost use Rattle.shared_store.specs.Tie.{CanServe};
 ghost use Rattle.shared_store.specs.Transcript.{Beginning, Transcribes, TranscribesPart};
-ghost use Rattle.shared_store.specs.Lines.{EndsLine};
+ghost use Rattle.script_text.specs.Lines.{EndsLine};
 ghost use Rattle.shared_store.specs.Serving.{Served};
 
 use crate::line::LineBuffer;
 use crate::output::send;
-use crate::reply::{ReplyText, write_reply};
+use crate::reply::write_reply;
 use crate::store::Store;
+use script_text::ReplyText;
 use sd_base::{Disk, Sink};
 
 /// A script that is being executed: the store, and the line that has begun.

@@ -1,0 +1,6 @@
+pub mod Lines
+pub mod Spelling
+pub mod Words
+pub mod Command
+pub mod Reading
+pub mod Reply
