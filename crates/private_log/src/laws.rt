@@ -1,8 +1,9 @@
-ghost use Rattle.std.specs.Prelude.{◌≡◌, ℕ, List, Option};
+ghost use Rattle.std.specs.Prelude.{◌≡◌, ◌≢◌, ℕ, List, Option};
 ghost use Rattle.sd_base.specs.Disk.{BlockState, IsOutcome, IsLawful};
+ghost use Rattle.sd_base.specs.Calls.{KeepsForeignBut};
 ghost use Rattle.private_log.specs.Content.{Region, LogContent, HoldsFront};
-ghost use Rattle.private_log.specs.Spread.{IsCutLog, IsStill, NarrowsRegion, KeepsRegion};
-ghost use Rattle.private_log.specs.Reading.{contents};
+ghost use Rattle.private_log.specs.Spread.{IsCutLog, IsFreeRegion, IsStill, NarrowsRegion, KeepsRegion};
+ghost use Rattle.private_log.specs.Reading.{contents, IsInRegion};
 ghost use Rattle.private_log.specs.Log.{LogState, region, IsLogOn};
 
 /// An image holds one log: its start and its records are what they are read as.
@@ -17,6 +18,13 @@ pub fn law_of_log_outcomes()
     ensures on { (l : LogState) (b : ℕ → BlockState) (xs : List (List ℕ)) (image : ℕ → Option (List ℕ)) → IsLogOn l b xs → IsOutcome b image → HoldsFront (region l) l.start l.stable xs image }
     ensures cut { (g : Region) (start stable : ℕ) (b : ℕ → BlockState) (xs : List (List ℕ)) (image : ℕ → Option (List ℕ)) → IsCutLog g start stable b xs → IsOutcome b image → HoldsFront g start stable xs image }
     ensures contents { (g : Region) (start stable : ℕ) (b : ℕ → BlockState) (xs : List (List ℕ)) → ((k : ℕ) → IsLawful b k) → IsCutLog g start stable b xs → HoldsFront g start stable xs (contents b) }
+{}
+
+/// The calls of one port leave the region of another port's log as it was, whatever they answer.
+pub fn law_of_foreign_logs()
+    ensures outcomes { (g : Region) (n m at : ℕ) (b c : ℕ → BlockState) → n ≢ m → IsFreeRegion g m b → ¬ (IsInRegion g at) → KeepsForeignBut at n b c → NarrowsRegion g b c }
+    ensures contents { (g : Region) (n m at : ℕ) (b c : ℕ → BlockState) → n ≢ m → IsFreeRegion g m b → ¬ (IsInRegion g at) → KeepsForeignBut at n b c → KeepsRegion g b c }
+    ensures free { (g : Region) (n m at : ℕ) (b c : ℕ → BlockState) → n ≢ m → IsFreeRegion g m b → ¬ (IsInRegion g at) → KeepsForeignBut at n b c → IsFreeRegion g m c }
 {}
 
 /// A log through calls of the device that aren't its own: reads, writes of other blocks and barriers

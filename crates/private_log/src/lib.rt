@@ -15,5 +15,5 @@ mod moving;
 mod reading;
 mod writing;
 
-pub use laws::{law_of_log_outcomes, law_of_one_log, law_of_other_calls};
+pub use laws::{law_of_foreign_logs, law_of_log_outcomes, law_of_one_log, law_of_other_calls};
 pub use log::Log;
