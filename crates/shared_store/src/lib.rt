@@ -4,8 +4,9 @@
 //! It promises upward, for every list of bytes that the source gives and over every device that
 //! tells its content, that the transcript is the answers of a map of records to the script's lines,
 //! and that the disk left behind shows that map whatever a stop leaves of it. It stands on `sd_base`
-//! for the meaning of the device, the source and the sink, and on `page_image` for the bytes of a
-//! page; the rules of lines, commands and replies are in docs/COMMANDS.md.
+//! for the meaning of the device, the source and the sink, on `page_image` for the bytes of a page,
+//! and on `script_text` for lines and the spelling of values; the rules of lines, commands and replies
+//! are in docs/COMMANDS.md.
 #![tactic(auto)]
 
 mod command;
