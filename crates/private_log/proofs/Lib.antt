@@ -13,3 +13,5 @@ pub mod OneLog
 pub mod Attached
 pub mod RecordLaws
 pub mod OtherCalls
+pub mod WholeLogs
+pub mod Regions

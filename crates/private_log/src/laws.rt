@@ -1,7 +1,9 @@
-ghost use Rattle.std.specs.Prelude.{◌≡◌, ◌≢◌, ℕ, List, Option};
+ghost use Rattle.std.specs.Prelude.{◌≡◌, ◌≢◌, ◌≤◌, ◌<◌, ℕ, List, Option};
 ghost use Rattle.sd_base.specs.Disk.{BlockState, IsOutcome, IsLawful};
 ghost use Rattle.sd_base.specs.Calls.{KeepsForeignBut};
-ghost use Rattle.private_log.specs.Content.{Region, LogContent, HoldsFront};
+ghost use Rattle.sd_base.specs.Shape.{IsShape, first_page};
+ghost use Rattle.sd_base.specs.declared.shape.Shape.{Shape};
+ghost use Rattle.private_log.specs.Content.{Region, region_of, LogContent, HoldsFront};
 ghost use Rattle.private_log.specs.Spread.{IsCutLog, IsFreeRegion, IsStill, NarrowsRegion, KeepsRegion};
 ghost use Rattle.private_log.specs.Reading.{contents, IsInRegion};
 ghost use Rattle.private_log.specs.Log.{LogState, region, IsLogOn};
@@ -29,9 +31,18 @@ pub fn law_of_foreign_logs()
 
 /// A log through calls of the device that aren't its own: reads, writes of other blocks and barriers
 /// leave it as it was, and a call after which no block of its region is uncovered, as a stop of its
-/// port, leaves a front of its records.
+/// port, leaves a front of its records. A log of which all records are stable is there whole, whatever
+/// a stop leaves, and stays through every call that gives no block of its region a new outcome.
 pub fn law_of_other_calls()
     ensures on { (l : LogState) (b c : ℕ → BlockState) (xs : List (List ℕ)) → NarrowsRegion (region l) b c → KeepsRegion (region l) b c → IsLogOn l b xs → IsLogOn l c xs }
     ensures stopped { (l : LogState) (b c : ℕ → BlockState) (xs : List (List ℕ)) → ((k : ℕ) → IsLawful c k) → NarrowsRegion (region l) b c → IsStill (region l) c → IsLogOn l b xs → IsCutLog (region l) l.start l.stable c xs }
     ensures cut { (g : Region) (start stable : ℕ) (b c : ℕ → BlockState) (xs : List (List ℕ)) → NarrowsRegion g b c → KeepsRegion g b c → IsCutLog g start stable b xs → IsCutLog g start stable c xs }
+    ensures whole { (l : LogState) (b c : ℕ → BlockState) (xs : List (List ℕ)) → ((k : ℕ) → IsLawful c k) → NarrowsRegion (region l) b c → l.stable ≡ l.tail → IsLogOn l b xs → IsLogOn l c xs }
+    ensures whole_cut { (l : LogState) (b : ℕ → BlockState) (xs : List (List ℕ)) → l.stable ≡ l.tail → IsLogOn l b xs → IsCutLog (region l) l.start l.tail b xs }
+{}
+
+/// The regions of the logs lie apart from one another, and before the pages.
+pub fn law_of_regions()
+    ensures pages { (s : Shape) (n at : ℕ) → IsShape s → 1 ≤ n → n ≤ s.nodes → IsInRegion (region_of s n) at → at < first_page s }
+    ensures apart { (s : Shape) (n m at : ℕ) → IsShape s → 1 ≤ n → n ≤ s.nodes → 1 ≤ m → m ≤ s.nodes → n ≢ m → IsInRegion (region_of s n) at → ¬ (IsInRegion (region_of s m) at) }
 {}

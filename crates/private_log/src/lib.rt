@@ -15,5 +15,7 @@ mod moving;
 mod reading;
 mod writing;
 
-pub use laws::{law_of_foreign_logs, law_of_log_outcomes, law_of_one_log, law_of_other_calls};
+pub use laws::{
+    law_of_foreign_logs, law_of_log_outcomes, law_of_one_log, law_of_other_calls, law_of_regions,
+};
 pub use log::Log;
