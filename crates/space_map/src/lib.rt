@@ -14,6 +14,7 @@ mod search;
 mod stale;
 
 pub use change::apply_map;
+pub use fields::ENTRIES;
 pub use image::{entry, law_of_one_text, parse_map, write_birth_map};
 pub use map_entry::MapEntry;
 pub use search::{find_group, first_free};

@@ -1,5 +1,6 @@
 -- What the calls on a page say of its block.
 use Rattle.std.specs.Prelude.{◌≡◌, ◌≢◌, ◌+◌, ◌^◌, ◌≤◌, ◌<◌, ℕ, ⊤, List, Option, Some, None}
+use Rattle.sd_base.specs.Disk.{BlockState}
 use Rattle.sd_base.specs.Shape.{first_page}
 use Rattle.sd_base.specs.declared.shape.Shape.{Shape}
 use Rattle.sd_base.specs.declared.names.PageNo.{PageNo}
@@ -40,6 +41,10 @@ IsToldOfPage s x content (Stopped n) = ⊤
 IsToldOfPage s x content (Failed n) = ⊤
 IsToldOfPage s x content (Lost at) = content ≡ None
 IsToldOfPage s x content (Damaged at) = (content ≢ None) × ((image : PageImage) → ¬ (HoldsPage s x image content))
+
+-- the port has no uncovered write
+abbrev pub HasSettled : ℕ → (ℕ → BlockState) → Type 0
+HasSettled port b = (k : ℕ) → (b k).writer ≢ Some port
 
 -- P unless the port stopped or failed
 abbrev pub UnlessStopped : DevFault → Type 0 → Type 0

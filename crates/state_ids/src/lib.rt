@@ -15,7 +15,7 @@ mod logged;
 mod writing;
 
 pub use held::{Clean, Dirty, Held, Written};
-pub use laws::law_of_changes;
+pub use laws::{law_of_changes, law_of_one_image};
 pub use loading::load;
 pub use logged::{Logged, log_page};
 pub use writing::write_page;

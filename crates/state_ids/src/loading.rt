@@ -6,7 +6,7 @@ ghost use Rattle.sd_base.specs.Shape.{IsShape, page_count};
 ghost use Rattle.frame_pool.specs.Frames.{IsOut};
 ghost use Rattle.state_ids.specs.PageImage.{PageImage, IsText, page_of, in_life};
 ghost use Rattle.state_ids.specs.Held.{Shows, KeepsFrames};
-ghost use Rattle.state_ids.specs.Blocks.{ShowsPage, page_place, IsOfKind, HoldsPage, IsPageFault, IsToldOfPage, FitsPage, UnlessStopped};
+ghost use Rattle.state_ids.specs.Blocks.{ShowsPage, page_place, IsOfKind, HoldsPage, IsPageFault, IsToldOfPage, FitsPage, UnlessStopped, HasSettled};
 
 use crate::held::{Clean, Held};
 use frame_pool::{Frame, Pool};
@@ -66,6 +66,7 @@ fn load_frame<D: Disk>(
     ensures outcomes { IsTrue D.told → Narrows (D.state disk.old).block (D.state disk.new).block }
     ensures writers { IsTrue D.told → NoNewWriter (D.state disk.old).block (D.state disk.new).block }
     ensures foreign { IsTrue D.told → KeepsForeign port.0 (D.state disk.old).block (D.state disk.new).block }
+    ensures settled { IfErr result (λ fault. OnStop fault (IsTrue D.told → HasSettled port.0 (D.state disk.new).block)) }
     ensures blocks { IsTrue D.told → StaysLive result ((D.state disk.new).block ≡ (D.state disk.old).block) }
     ensures frames { KeepsFrames f.now pool.old pool.new }
     ensures out { IsOut pool.new f.now }
@@ -113,6 +114,7 @@ pub fn load<D: Disk>(
     ensures outcomes { IsTrue D.told → Narrows (D.state disk.old).block (D.state disk.new).block }
     ensures writers { IsTrue D.told → NoNewWriter (D.state disk.old).block (D.state disk.new).block }
     ensures foreign { IsTrue D.told → KeepsForeign port.0 (D.state disk.old).block (D.state disk.new).block }
+    ensures settled { IfErr result (λ r. OnStop r.0 (IsTrue D.told → HasSettled port.0 (D.state disk.new).block)) }
     ensures blocks { IsTrue D.told → MatchResult result (λ _. (D.state disk.new).block ≡ (D.state disk.old).block) (λ r. UnlessStopped r.0 ((D.state disk.new).block ≡ (D.state disk.old).block)) }
     ensures frames { KeepsFrames f pool.old pool.new }
     ensures out { IsOut pool.new f }

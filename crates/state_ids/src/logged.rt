@@ -39,6 +39,13 @@ impl Model for Logged {
 }
 
 impl Logged {
+    /// The page that the record changes.
+    pub fn page(&self) -> PageNo
+        ensures { result ≡ self.now.page }
+    {
+        self.page
+    }
+
     /// The number of the record.
     pub fn number(&self) -> u64
         ensures { result ≡ self.now.number }

@@ -4,7 +4,7 @@ ghost use Rattle.sd_base.specs.Calls.{Keeps, NarrowsBut, NoNewWriterBut, KeepsFo
 ghost use Rattle.sd_base.specs.Faults.{Caused, IsStopOf};
 ghost use Rattle.sd_base.specs.Shape.{IsShape, page_count};
 ghost use Rattle.frame_pool.specs.Frames.{IsOut, frame_at};
-ghost use Rattle.state_ids.specs.Blocks.{page_place};
+ghost use Rattle.state_ids.specs.Blocks.{page_place, HasSettled};
 
 use crate::held::{Dirty, Held, Written};
 use frame_pool::Pool;
@@ -42,6 +42,7 @@ pub fn write_page<D: Disk>(
     ensures outcomes { IsTrue D.told → (b : List ℕ) → frame_at pool.now h.now.frame ≡ Some b → NarrowsBut (page_place s.now h.now.ticket.page) b (D.state disk.old).block (D.state disk.new).block }
     ensures writers { IsTrue D.told → NoNewWriterBut (page_place s.now h.now.ticket.page) port.0 (D.state disk.old).block (D.state disk.new).block }
     ensures foreign { IsTrue D.told → KeepsForeignBut (page_place s.now h.now.ticket.page) port.0 (D.state disk.old).block (D.state disk.new).block }
+    ensures settled { OnErr result (IsTrue D.told → HasSettled port.0 (D.state disk.new).block) }
     ensures still { IsTrue D.told → ((D.state disk.new).block (page_place s.now h.now.ticket.page)).writer ≡ None }
     ensures others { OnOk result (IsTrue D.told → (k : ℕ) → k ≢ page_place s.now h.now.ticket.page → ((D.state disk.new).block k).current ≡ ((D.state disk.old).block k).current) }
     ensures written { OnOk result (IsTrue D.told → (b : List ℕ) → frame_at pool.now h.now.frame ≡ Some b → Holds (D.state disk.new).block (page_place s.now h.now.ticket.page) (Some b)) }

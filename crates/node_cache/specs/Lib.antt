@@ -1,0 +1,5 @@
+pub mod Cache
+pub mod Places
+pub mod Writes
+pub mod Room
+pub mod Lending
