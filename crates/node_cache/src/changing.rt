@@ -11,7 +11,7 @@ ghost use Rattle.log_record.specs.Text.{record_text};
 ghost use Rattle.private_log.specs.Content.{HoldsFront};
 ghost use Rattle.private_log.specs.Spread.{IsFreeRegion, IsStill, IsCutLog};
 ghost use Rattle.private_log.specs.Frames.{IsInReach, NarrowsBeside, KeepsContents};
-ghost use Rattle.private_log.specs.Log.{region, next_place, space, SameLog, IsLogOn};
+ghost use Rattle.private_log.specs.Log.{region, next_place, space, written, SameLog, IsLogOn};
 ghost use Rattle.state_ids.specs.PageImage.{PageImage, is_map, is_map_op, changed};
 ghost use Rattle.state_ids.specs.Held.{Shows, KeepsFrames};
 ghost use Rattle.node_cache.specs.Cache.{CachedPage, AreOut, AreShown, FitsCached, IsOfStore, IsTiedToLog, IsTiedToDisk, changed_by, page_at, with_page};
@@ -76,6 +76,8 @@ impl NodeCache {
         ensures node { self.new.node ≡ self.old.node }
         ensures same { SameLog self.old.log self.new.log }
         ensures tail { OnOk result (self.new.log.tail ≡ self.old.log.tail + 1) }
+        ensures stable_in_memory { OnOk result ((self.old.log.tail + 1) % 6 ≢ 0 → self.new.log.stable ≡ self.old.log.stable) }
+        ensures stable_written { OnOk result ((self.old.log.tail + 1) % 6 ≡ 0 → self.new.log.stable ≡ written self.old.log) }
         ensures pages { OnOk result ((x : PageNo) (ident : ℕ) (op : PageOp) → page_op_of rec.now ≡ Some (x, ident, op) → self.new.pages ≡ with_page x (changed_by self.old.log.tail) self.old.pages) }
         ensures pages_kept { OnErr result (self.new.pages ≡ self.old.pages) }
         ensures frames { (x : PageNo) (ident : ℕ) (op : PageOp) (p : CachedPage) → page_op_of rec.now ≡ Some (x, ident, op) → page_at x self.old.pages ≡ Some p → KeepsFrames p.frame pool.old pool.new }

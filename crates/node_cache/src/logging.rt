@@ -9,7 +9,7 @@ ghost use Rattle.log_record.specs.Text.{record_text};
 ghost use Rattle.private_log.specs.Content.{HoldsFront};
 ghost use Rattle.private_log.specs.Spread.{IsFreeRegion, IsStill, IsCutLog};
 ghost use Rattle.private_log.specs.Frames.{IsInReach, NarrowsBeside, KeepsContents};
-ghost use Rattle.private_log.specs.Log.{region, tail_place, next_place, space, SameLog, IsLogOn};
+ghost use Rattle.private_log.specs.Log.{region, tail_place, next_place, space, written, SameLog, IsLogOn};
 ghost use Rattle.node_cache.specs.Cache.{IsOfStore, IsTiedToLog, IsTiedToDisk};
 
 use crate::cache::NodeCache;
@@ -43,6 +43,8 @@ impl NodeCache {
         ensures pages { self.new.pages ≡ self.old.pages }
         ensures same { SameLog self.old.log self.new.log }
         ensures tail { OnOk result (self.new.log.tail ≡ self.old.log.tail + 1) }
+        ensures stable_in_memory { OnOk result ((self.old.log.tail + 1) % 6 ≢ 0 → self.new.log.stable ≡ self.old.log.stable) }
+        ensures stable_written { OnOk result ((self.old.log.tail + 1) % 6 ≡ 0 → self.new.log.stable ≡ written self.old.log) }
         ensures log_tie { OnOk result (IsTiedToLog self.new) }
         ensures disk_tie { IsTrue D.told → (s : Shape) (pool : List (Option (List ℕ))) → IsOfStore s self.old → IsTiedToDisk s pool self.old (D.state disk.old).block → IsTiedToDisk s pool self.new (D.state disk.new).block }
         ensures free { OnOk result (IsTrue D.told → IsFreeRegion (region self.new.log) self.old.node.0 (D.state disk.new).block) }
