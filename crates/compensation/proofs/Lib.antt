@@ -1,3 +1,4 @@
-mod InverseLaws
+pub mod InverseLaws
 pub mod LeftLaws
 pub mod FindingLaws
+pub mod LogRecords

@@ -15,7 +15,7 @@ pub use laws::{
     law_of_a_log_cut_in_front, law_of_one_more_record, law_of_the_finding, law_of_the_next_record,
     law_of_told_logs,
 };
-pub use next::next_of;
+pub use next::{next_after, next_of, record_before};
 
 #[cfg(test)]
 mod tests;

@@ -1,5 +1,6 @@
 ghost use Rattle.std.specs.Prelude.{◌≡◌};
-ghost use Rattle.compensation.specs.Finding.{next_to_undo};
+ghost use Rattle.compensation.specs.Finding.{next_to_undo, record_before};
+ghost use Rattle.compensation.specs.Left.{next_after};
 
 use log_record::LogRecord;
 
@@ -16,5 +17,33 @@ pub fn next_of(rec: &LogRecord, r: u64) -> Option<u64>
         | LogRecord::Abort { .. }
         | LogRecord::MapUse { .. }
         | LogRecord::MapFree { .. } => None,
+    }
+}
+
+/// The record of its transaction before this one, which names it; zero for a record that names none.
+pub fn record_before(rec: &LogRecord) -> u64
+    ensures { result ≡ record_before rec.now }
+{
+    match *rec {
+        LogRecord::Set { prev, .. }
+        | LogRecord::Append { prev, .. }
+        | LogRecord::Commit { prev, .. }
+        | LogRecord::Abort { prev, .. }
+        | LogRecord::Restore { prev, .. }
+        | LogRecord::Cut { prev, .. } => prev,
+        LogRecord::Begin | LogRecord::MapUse { .. } | LogRecord::MapFree { .. } => 0,
+    }
+}
+
+/// The record that a compensation of the transaction `t` names as the one to be taken back next.
+/// `None` exactly for other records.
+pub fn next_after(rec: &LogRecord, t: u64) -> Option<u64>
+    ensures { result ≡ next_after t rec.now }
+{
+    match *rec {
+        LogRecord::Restore { txn, next, .. } | LogRecord::Cut { txn, next, .. } if txn == t => {
+            Some(next)
+        }
+        _ => None,
     }
 }

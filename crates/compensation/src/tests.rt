@@ -113,9 +113,8 @@ fn puts_the_slot_back(rt: HostRuntime) {
     }
 }
 
-#[test]
-fn names_what_is_next(rt: HostRuntime) {
-    let restore = LogRecord::Restore {
+fn restore() -> LogRecord {
+    LogRecord::Restore {
         txn: 6,
         prev: 9,
         next: 7,
@@ -123,8 +122,11 @@ fn names_what_is_next(rt: HostRuntime) {
         bsi: 43,
         slot: 5,
         after: None,
-    };
-    let cut = LogRecord::Cut {
+    }
+}
+
+fn cut() -> LogRecord {
+    LogRecord::Cut {
         txn: 6,
         prev: 10,
         next: 6,
@@ -133,24 +135,78 @@ fn names_what_is_next(rt: HostRuntime) {
         slot: 5,
         present: true,
         len: 3,
-    };
-    let use_of = LogRecord::MapUse {
+    }
+}
+
+fn use_of() -> LogRecord {
+    LogRecord::MapUse {
         page: PageNo(0),
         bsi: 1,
         place: 251,
         group: GroupNo(3),
-    };
+    }
+}
+
+fn free() -> LogRecord {
+    LogRecord::MapFree {
+        page: PageNo(0),
+        bsi: 2,
+        place: 251,
+        group: GroupNo(3),
+        ident: 50,
+    }
+}
+
+#[test]
+fn names_what_is_next(rt: HostRuntime) {
     for (rec, next, taken_back) in [
         (set(None, None), Some(11), true),
         (append(None, b"a"), Some(11), true),
-        (restore, Some(7), false),
-        (cut, Some(6), false),
+        (restore(), Some(7), false),
+        (cut(), Some(6), false),
         (LogRecord::Begin, None, false),
         (LogRecord::Commit { txn: 6, prev: 9 }, None, false),
         (LogRecord::Abort { txn: 6, prev: 9 }, None, false),
-        (use_of, None, false),
+        (use_of(), None, false),
+        (free(), None, false),
     ] {
         assert_eq!(rt; next_of(&rec, 11), next, "{rec:?}");
         assert_eq!(rt; take_back(&rec).is_some(), taken_back, "{rec:?}");
+    }
+}
+
+#[test]
+fn names_the_record_before(rt: HostRuntime) {
+    for (rec, before) in [
+        (LogRecord::Begin, 0),
+        (set(None, None), 7),
+        (append(None, b"a"), 7),
+        (LogRecord::Commit { txn: 6, prev: 8 }, 8),
+        (LogRecord::Abort { txn: 6, prev: 11 }, 11),
+        (restore(), 9),
+        (cut(), 10),
+        (use_of(), 0),
+        (free(), 0),
+    ] {
+        assert_eq!(rt; record_before(&rec), before, "{rec:?}");
+    }
+}
+
+#[test]
+fn names_what_a_compensation_says(rt: HostRuntime) {
+    for (rec, t, next) in [
+        (restore(), 6, Some(7)),
+        (restore(), 7, None),
+        (cut(), 6, Some(6)),
+        (cut(), 10, None),
+        (LogRecord::Begin, 0, None),
+        (set(None, None), 6, None),
+        (append(None, b"a"), 6, None),
+        (LogRecord::Commit { txn: 6, prev: 8 }, 6, None),
+        (LogRecord::Abort { txn: 6, prev: 11 }, 6, None),
+        (use_of(), 0, None),
+        (free(), 0, None),
+    ] {
+        assert_eq!(rt; next_after(&rec, t), next, "{rec:?} for {t}");
     }
 }

@@ -2,6 +2,7 @@ ghost use Rattle.std.specs.Prelude.{◌≡◌, ◌≢◌, ◌-◌, ◌*◌, ◌/
 ghost use Rattle.sd_base.specs.Disk.{IsPort};
 ghost use Rattle.sd_base.specs.Calls.{Keeps, Narrows, NoNewWriter, KeepsForeign};
 ghost use Rattle.sd_base.specs.Faults.{Caused, IsStopOf, OnStop, StaysLive};
+ghost use Rattle.private_log.specs.Spread.{IsFreeRegion, IsStill};
 ghost use Rattle.private_log.specs.Frames.{IsInReach};
 ghost use Rattle.private_log.specs.Reading.{contents, IsLogFault, IsToldOf, ReadsLog};
 ghost use Rattle.private_log.specs.Log.{region, IsLogOn};
@@ -37,6 +38,7 @@ impl Log {
         ensures writers { IsTrue D.told → NoNewWriter (D.state disk.old).block (D.state disk.new).block }
         ensures foreign { IsTrue D.told → KeepsForeign port.0 (D.state disk.old).block (D.state disk.new).block }
         ensures blocks { IsTrue D.told → StaysLive result ((D.state disk.new).block ≡ (D.state disk.old).block) }
+        ensures still { IfErr result (λ fault. OnStop fault (IsTrue D.told → IsFreeRegion (region self.now) port.0 (D.state disk.old).block → IsStill (region self.now) (D.state disk.new).block)) }
         ensures memory { self.now.tail / 6 ≡ r / 6 → disk.new ≡ disk.old }
         ensures sure { self.now.tail / 6 ≡ r / 6 → IsOk result }
         ensures kept { OnErr result (out.new ≡ out.old) }

@@ -1,8 +1,0 @@
-use Rattle.std.proofs.Common.{ap, ◌∙◌}
-use Rattle.page_owner.specs.Owners.{owner_of}
-use Rattle.cache_trials.specs.declared.store.TheConstants.{PAGES}
-use Rattle.cache_trials.proofs.ReadyLaws.{nobody_at}
-use Rattle.cache_trials.proofs.store.open_on.Goals as goal
-
-pub open-requires-clause-nobody : goal.open-requires-clause-nobody
-open-requires-clause-nobody g c = λ x. ap (λ owners. owner_of owners x) c.in_ok-owners.ensures ∙ nobody_at PAGES x

@@ -1,0 +1,119 @@
+-- What the calls of the seats leave of what their caller carries.
+use Rattle.std.specs.Prelude.{◌≡◌, ◌+◌, ◌^◌, ◌≤◌, ◌<◌, ℕ, zero, suc, Bool, true, false, IsTrue, List, [], ◌∷◌, Option, Some, None, Result, Ok, Err, OnOk, IfOk, IfSome, MatchOption, is_some, length, map, slice_index, slice_index_or, slice_set, refl}
+use Rattle.std.proofs.Common.{arith, ap, inl, inr, sym, subst, ◌∙◌}
+use Rattle.std.proofs.lemmas.Bool.{cases_eq}
+use Rattle.std.proofs.lemmas.List.{get_or-set_other}
+use Rattle.std.proofs.lemmas.Grind.{get_or-set_at}
+use Rattle.sd_base.specs.Disk.{BlockState, DiskState}
+use Rattle.sd_base.specs.Calls.{Keeps, NoNewWriter, NoNewWriterBut}
+use Rattle.sd_base.specs.Faults.{StaysLive}
+use Rattle.sd_base.specs.declared.fault.DevFault.{DevFault}
+use Rattle.sd_base.specs.declared.names.PageNo.{PageNo}
+use Rattle.sd_base.specs.declared.shape.Shape.{Shape}
+use Rattle.page_image.specs.declared.page_view.PageView.{PageView}
+use Rattle.page_owner.specs.declared.owners.Own.{Own}
+use Rattle.log_record.specs.declared.record.LogRecord.{LogRecord}
+use Rattle.log_record.specs.Record.{page_op_of}
+use Rattle.private_log.specs.Log.{SameLog}
+use Rattle.node_cache.specs.Cache.{CachedPage, CacheState}
+use Rattle.compensation.specs.Left.{uncompensated}
+use Rattle.compensation.specs.Finding.{newest, record_at}
+use Rattle.txn_core.specs.Seats.{AreTied, OpenTxn, SeatsState, is_busy, txn_in}
+use Rattle.txn_core.specs.Undo.{IsToUndo}
+use Rattle.txn_core.specs.Updates.{HasPage}
+use Rattle.txn_core.proofs.SeatLaws.{all_longer}
+use Rattle.node_trials.specs.Bench.{IsReady}
+use Rattle.node_trials.specs.SeatBench.{AreCounted}
+use Rattle.node_trials.proofs.ReadyLaws.{ready_written}
+
+-- what is said of a result that is expected
+pub done : {T E P : Type 0} (r : Result T E) (x : T) → r ≡ Ok x → OnOk r P → P
+done (Ok y) x is p = p
+done (Err e) x is p = cc
+
+pub alive : {T P : Type 0} (r : Result T DevFault) (x : T) → r ≡ Ok x → StaysLive r P → P
+alive (Ok y) x is p = p
+alive (Err e) x is p = cc
+
+pub given : {T E : Type 0} (P : T → Type 0) (r : Result T E) (x : T) → r ≡ Ok x → IfOk r P → P x
+given P (Ok y) x is p = let same : y ≡ x = cc in subst P same p
+given P (Err e) x is p = cc
+
+pub matched : {T : Type 0} (P : Type 0) (Q : T → Type 0) (o : Option T) (x : T) → o ≡ Some x → MatchOption o P Q → Q x
+matched P Q None x is p = cc
+matched P Q (Some y) x is p = let same : y ≡ x = cc in subst Q same p
+
+-- a busy seat has a transaction
+pub txn_of : (s : SeatsState) (seat : ℕ) → IsTrue (is_busy s seat) → (t : OpenTxn) × (txn_in s seat ≡ Some t)
+txn_of s seat busy = by (txn_in s seat) refl busy
+  where
+    by : (o : Option OpenTxn) → txn_in s seat ≡ o → IsTrue (is_some o) → (t : OpenTxn) × (txn_in s seat ≡ Some t)
+    by None is some = absurd (let never : false ≡ true = some in cc)
+    by (Some t) is some = (t, is)
+
+-- no block has a new writer, and so none but for one
+pub none_but : (at n : ℕ) (b b' : ℕ → BlockState) → NoNewWriter b b' → NoNewWriterBut at n b b'
+none_but at n b b' none k = elim (none k) [ inl same ↦ inl same | inr gone ↦ inr (inl gone) ]
+
+-- what a caller carries, after a call that read the log
+pub ready_read : (s : Shape) (told : Bool) (d d' : DiskState) (pool : List (Option (List ℕ))) (owners : List Own) (c : CacheState) → IsReady s told d pool owners c → Keeps c.node.0 d d' → d'.live c.node.0 ≡ true → (IsTrue told → NoNewWriter d.block d'.block)
+    → IsReady s told d' pool owners c
+ready_read s told d d' pool owners c was keeps live writers =
+    ready_written s told d d' pool pool owners c c 0 was keeps live (λ t. none_but 0 c.node.0 d.block d'.block (writers t)) refl (record { shape = refl; node = refl; start = refl }) was.log_tie refl refl
+
+-- the page of the update that is to be taken back next, where it is cached
+pub to_undo_of : (pool : List (Option (List ℕ))) (pages : List CachedPage) (first : ℕ) (recs : List LogRecord) (t : OpenTxn) (number : ℕ) (x : PageNo) (v : PageView) → HasPage pool pages x v → v.ident < 2 ^ 63 + 2 ^ 40
+    → (newest (uncompensated t.begin first recs) ≡ Some number) × (rec : LogRecord) × (record_at first recs number ≡ Some rec) × IfSome (page_op_of rec) (λ o. o.0 ≡ x) → IsToUndo pool pages first recs t v
+to_undo_of pool pages first recs t number x v has room found = record {
+  number = number;
+  newest = found.0;
+  update = found.1;
+  there = found.2;
+  of_page = subst (λ y. IfSome (page_op_of found.1) (λ o. o.0 ≡ y)) (sym has.number) found.3;
+  cached = subst (λ y. HasPage pool pages y v) (sym has.number) has;
+  room = room;
+}
+
+-- the tie of the seats, through a call that leaves the log as long as it was
+pub tied_same : (s : SeatsState) (c d : CacheState) → d.node ≡ c.node → SameLog c.log d.log → d.log.tail ≡ c.log.tail → AreTied s c → AreTied s d
+tied_same s c d node same tail tie =
+    let ring : d.log.shape.ring ≡ c.log.shape.ring = ap (λ shape. shape.ring) same.shape in
+    let start = same.start in
+    let room = tie.room in
+    record {
+      node = tie.node ∙ sym node;
+      room = omega (arith, ring, start, tail, room);
+      within = all_longer c.log d.log s.seats start (omega (arith, tail)) tie.within;
+      apart = tie.apart;
+    }
+
+-- what stands in a seat that was set
+own_of : (xs : List (Option OpenTxn)) (k : ℕ) (o t : OpenTxn) → slice_index_or (slice_set xs k (Some o)) k None ≡ Some t → o ≡ t
+own_of [] k o t is = absurd (let never : None ≡ Some t = is in cc)
+own_of (x ∷ xs) zero o t is = let same : Some o ≡ Some t = is in cc
+own_of (x ∷ xs) (suc k) o t is = own_of xs k o t is
+
+none_of : {P : Type 0} (xs : List (Option OpenTxn)) (k : ℕ) (t : OpenTxn) → slice_index_or (slice_set xs k None) k None ≡ Some t → P
+none_of [] k t is = absurd (let never : None ≡ Some t = is in cc)
+none_of (x ∷ xs) zero t is = absurd (let never : None ≡ Some t = is in cc)
+none_of (x ∷ xs) (suc k) t is = none_of xs k t is
+
+-- the count of a seat that gets another transaction, or has one more or one less update
+pub counted_set : (left : List ℕ) (s t : SeatsState) (seat n : ℕ) (o : OpenTxn) → AreCounted left s → t.seats ≡ slice_set s.seats seat (Some o) → seat < length left → n ≡ o.left → AreCounted (slice_set left seat n) t
+counted_set left s t seat n o counted same below is i u there =
+    let now : slice_index_or (slice_set s.seats seat (Some o)) i None ≡ Some u = subst (λ xs. slice_index_or xs i None ≡ Some u) same there in
+    elim (cases_eq i seat) [
+      | inl here ↦
+          let own : o ≡ u = own_of s.seats seat o u (subst (λ k. slice_index_or (slice_set s.seats seat (Some o)) k None ≡ Some u) here now) in
+          get_or-set_at left seat i n 0 here below ∙ is ∙ ap (λ v. v.left) own
+      | inr other ↦ get_or-set_other left seat i n 0 other ∙ counted i u (sym (get_or-set_other s.seats seat i (Some o) None other) ∙ now)
+    ]
+
+-- and of one that is free then
+pub counted_free : (left : List ℕ) (s t : SeatsState) (seat : ℕ) → AreCounted left s → t.seats ≡ slice_set s.seats seat None → AreCounted left t
+counted_free left s t seat counted same i u there =
+    let now : slice_index_or (slice_set s.seats seat None) i None ≡ Some u = subst (λ xs. slice_index_or xs i None ≡ Some u) same there in
+    elim (cases_eq i seat) [
+      | inl here ↦ none_of s.seats seat u (subst (λ k. slice_index_or (slice_set s.seats seat None) k None ≡ Some u) here now)
+      | inr other ↦ counted i u (sym (get_or-set_other s.seats seat i None None other) ∙ now)
+    ]

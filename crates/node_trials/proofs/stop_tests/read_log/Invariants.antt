@@ -1,0 +1,10 @@
+use Rattle.std.proofs.Common.{◌≡◌, true}
+use Rattle.node_trials.specs.declared.store.TheConstants.{NODE, SHAPE}
+use Rattle.node_trials.specs.Bench.{IsWhole}
+use Rattle.node_trials.proofs.stop_tests.read_log.Given as goal
+
+abbrev pub invariant-loop-number : goal.invariant-loop-number
+invariant-loop-number g l = record {
+  live : (g.D.Disk.state l.disk).live NODE.0 ≡ true;
+  whole : IsWhole SHAPE (g.D.Disk.state l.disk);
+}

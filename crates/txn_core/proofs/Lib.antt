@@ -1,0 +1,9 @@
+pub mod ToldLaws
+pub mod SeatLaws
+pub mod UpdateLaws
+pub mod ReadLaws
+pub mod UndoLaws
+pub mod SumLaws
+pub mod CompensationLaws
+pub mod TakeBackLaws
+pub mod Stops

@@ -1,0 +1,5 @@
+pub mod Seats
+pub mod Told
+pub mod Shown
+pub mod Updates
+pub mod Undo
