@@ -18,6 +18,8 @@ pub use streams::{Script, Transcript};
 #[cfg(test)]
 mod client_tests;
 #[cfg(test)]
+mod format_tests;
+#[cfg(test)]
 mod log_tests;
 #[cfg(test)]
 mod page_tests;

@@ -1,0 +1,9 @@
+pub mod Deeds
+pub mod Put
+pub mod DeedSteps
+pub mod Homes
+pub mod PageSteps
+pub mod UseSteps
+pub mod SealSteps
+pub mod LockSteps
+pub mod FormattedLaws

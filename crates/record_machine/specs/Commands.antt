@@ -1,0 +1,205 @@
+-- What a command is answered, and what it does.
+use Rattle.std.specs.Prelude.{◌≡◌, ◌^◌, ◌++◌, ◌∷◌, [], ℕ, Bool, true, false, not, nat_le, nat_lt, List, Option, Some, None, take}
+use Rattle.sd_base.specs.declared.device.NodeId.{NodeId}
+use Rattle.sd_base.specs.declared.names.Key.{Key}
+use Rattle.sd_base.specs.declared.names.TxnId.{TxnId}
+use Rattle.record_locks.specs.declared.mode.Mode.{Mode}
+use Rattle.record_locks.specs.declared.mode.Mode.TheVariants as locks
+use Rattle.record_locks.specs.declared.mode.LockAnswer.{LockAnswer}
+use Rattle.record_locks.specs.declared.mode.LockAnswer.TheVariants.{Free, Mine, Conflict, Full}
+use Rattle.record_locks.specs.Answer.{lock_answer}
+use Rattle.script_text.specs.declared.command.Command.{Command}
+use Rattle.script_text.specs.declared.command.Command.TheVariants as asks
+use Rattle.script_text.specs.declared.reply.Reply.{Reply}
+use Rattle.script_text.specs.declared.reply.Reply.TheVariants as says
+use Rattle.record_machine.specs.Machine.{Machine, NodeMode, Idle, Up, Down, Redone, free_place, group_of, home, is_busy, map_of, new_home, room, seen}
+use Rattle.record_machine.specs.Parts.{Part, Start, Take, Begin, Use, Lock, Change, Seal, Unlock, dos}
+
+-- ---- refusals
+
+-- this reply, where it is refused for this
+abbrev pub where_so : Bool → Reply → Option Reply
+where_so true why = Some why
+where_so false why = None
+
+-- the first refusal of a list
+abbrev pub first_of : List (Option Reply) → Option Reply
+first_of [] = None
+first_of (None ∷ more) = first_of more
+first_of (Some why ∷ more) = Some why
+
+abbrev pub is_idle : NodeMode → Bool
+is_idle Idle = true
+is_idle Up = false
+is_idle Down = false
+is_idle Redone = false
+
+abbrev pub is_up : NodeMode → Bool
+is_up Idle = false
+is_up Up = true
+is_up Down = false
+is_up Redone = false
+
+-- the store has no such node, or it isn't idle, or isn't up
+abbrev pub no_node : Machine → NodeId → Option Reply
+no_node m n = where_so (nat_lt m.shape.nodes n.0) (says.NoNode n)
+
+abbrev pub not_idle : Machine → NodeId → Option Reply
+not_idle m n = where_so (not (is_idle (m.mode n.0))) (says.NotIdle n)
+
+abbrev pub not_up : Machine → NodeId → Option Reply
+not_up m n = where_so (not (is_up (m.mode n.0))) (says.NotUp n)
+
+-- the transaction is open, or isn't
+abbrev pub busy : Machine → TxnId → Option Reply
+busy m t = where_so (is_busy m t) (says.Busy t)
+
+abbrev pub no_txn : Machine → TxnId → Option Reply
+no_txn m t = where_so (not (is_busy m t)) (says.NotTxn t)
+
+-- the lock can't be had
+abbrev pub no_lock : Machine → Key → TxnId → Mode → Option Reply
+no_lock m key t mode = told (lock_answer m.locks key t mode)
+  where
+    told : LockAnswer → Option Reply
+    told Free = None
+    told Mine = None
+    told (Conflict u) = Some (says.Locked u)
+    told Full = Some says.LocksFull
+
+-- no further change may be made of a page
+abbrev pub at_limit : Machine → ℕ → Option Reply
+at_limit m x = where_so (nat_le (2 ^ 63) (m.ident x)) (says.Limit (record { 0 = x }))
+
+-- the log has no room for so many records
+abbrev pub no_room : Machine → NodeId → ℕ → Option Reply
+no_room m n need = where_so (nat_lt (room m n.0) need) (says.LogFull need (room m n.0))
+
+-- the first reason why a write into the group's page can't be made: into the one that it has, or into the one that it gets
+abbrev pub no_page : Machine → NodeId → ℕ → Option Reply
+no_page m n key = of_group (home m key)
+  where
+    -- the new page
+    of_new : Option ℕ → Option Reply
+    of_new None = Some (says.NoSpace (record { 0 = map_of m key }))
+    of_new (Some x) = first_of (at_limit m x ∷ no_room m n 3 ∷ [])
+
+    of_group : Option ℕ → Option Reply
+    of_group (Some x) = first_of (at_limit m x ∷ no_room m n 2 ∷ [])
+    of_group None = first_of (at_limit m (map_of m key) ∷ of_new (new_home m key) ∷ [])
+
+-- why a command is refused, if it is: the first of these reasons that there is. A line of a form that the store doesn't
+-- know yet is bad.
+abbrev pub refusal : Machine → Command → Option Reply
+refusal m (asks.Format s) = Some says.Formatted
+refusal m (asks.Start n) = first_of (no_node m n ∷ not_idle m n ∷ [])
+refusal m (asks.Begin t) = first_of (no_node m t.node ∷ not_up m t.node ∷ busy m t ∷ no_room m t.node 2 ∷ [])
+refusal m (asks.Get t key) = first_of (no_node m t.node ∷ not_up m t.node ∷ no_txn m t ∷ no_lock m key t locks.Read ∷ [])
+refusal m (asks.Put t key value) = first_of (no_node m t.node ∷ not_up m t.node ∷ no_txn m t ∷ no_lock m key t locks.Write ∷ no_page m t.node key.0 ∷ [])
+refusal m (asks.Commit t) = first_of (no_node m t.node ∷ not_up m t.node ∷ no_txn m t ∷ [])
+refusal m asks.Bad = Some says.Bad
+refusal m (asks.Append t key value) = Some says.Bad
+refusal m (asks.Del t key) = Some says.Bad
+refusal m (asks.Abort t) = Some says.Bad
+refusal m (asks.Flush n) = Some says.Bad
+refusal m (asks.Dump n) = Some says.Bad
+refusal m (asks.Stat n) = Some says.Bad
+
+-- ---- what is done
+
+-- the node takes the map page of the key's group, and then a page if there is one
+abbrev pub takes_both : Machine → ℕ → ℕ → Option ℕ → List Part
+takes_both m n key None = Take (map_of m key) n ∷ []
+takes_both m n key (Some x) = Take (map_of m key) n ∷ Take x n ∷ []
+
+-- the page in which the record of the key is to be written
+abbrev pub target : Machine → ℕ → Option ℕ
+target m key = or_new (home m key)
+  where
+    or_new : Option ℕ → Option ℕ
+    or_new None = new_home m key
+    or_new (Some x) = Some x
+
+-- the pages that a command takes
+abbrev pub takes : Machine → Command → List Part
+takes m (asks.Get t key) = takes_both m t.node.0 key.0 (home m key.0)
+takes m (asks.Put t key value) = takes_both m t.node.0 key.0 (target m key.0)
+takes m asks.Bad = []
+takes m (asks.Format s) = []
+takes m (asks.Start n) = []
+takes m (asks.Begin t) = []
+takes m (asks.Append t key value) = []
+takes m (asks.Del t key) = []
+takes m (asks.Commit t) = []
+takes m (asks.Abort t) = []
+takes m (asks.Flush n) = []
+takes m (asks.Dump n) = []
+takes m (asks.Stat n) = []
+
+-- a group that has no page gets the first free place of its map page
+abbrev pub uses : Machine → ℕ → ℕ → List Part
+uses m n key = for_group (home m key)
+  where
+    for_place : Option ℕ → List Part
+    for_place None = []
+    for_place (Some place) = Use n (map_of m key) place (group_of key) ∷ []
+
+    for_group : Option ℕ → List Part
+    for_group (Some x) = []
+    for_group None = for_place (free_place m key)
+
+-- the record of the key is written into its page
+abbrev pub writes : TxnId → ℕ → Option (List ℕ) → Option ℕ → List Part
+writes t key value None = []
+writes t key value (Some x) = Change t (record { key = key; page = x; value = value }) ∷ []
+
+-- what a command does that isn't refused, part by part
+abbrev pub parts : Machine → Command → List Part
+parts m (asks.Start n) = Start n.0 ∷ []
+parts m (asks.Begin t) = Begin t ∷ []
+parts m (asks.Get t key) = takes m (asks.Get t key) ++ Lock key t locks.Read ∷ []
+parts m (asks.Put t key value) = takes m (asks.Put t key value) ++ uses m t.node.0 key.0 ++ Lock key t locks.Write ∷ writes t key.0 (Some value) (target m key.0)
+parts m (asks.Commit t) = Seal t ∷ Unlock t ∷ []
+parts m asks.Bad = []
+parts m (asks.Format s) = []
+parts m (asks.Append t key value) = []
+parts m (asks.Del t key) = []
+parts m (asks.Abort t) = []
+parts m (asks.Flush n) = []
+parts m (asks.Dump n) = []
+parts m (asks.Stat n) = []
+
+-- the reply to a command that isn't refused
+abbrev pub found : Option (List ℕ) → Reply
+found None = says.Absent
+found (Some value) = says.Found value
+
+abbrev pub answer : Machine → Command → Reply
+answer m (asks.Get t key) = found (seen m t key.0)
+answer m asks.Bad = says.Fine
+answer m (asks.Format s) = says.Fine
+answer m (asks.Start n) = says.Fine
+answer m (asks.Begin t) = says.Fine
+answer m (asks.Put t key value) = says.Fine
+answer m (asks.Append t key value) = says.Fine
+answer m (asks.Del t key) = says.Fine
+answer m (asks.Commit t) = says.Fine
+answer m (asks.Abort t) = says.Fine
+answer m (asks.Flush n) = says.Fine
+answer m (asks.Dump n) = says.Fine
+answer m (asks.Stat n) = says.Fine
+
+-- ---- a step
+
+-- a refused command may have taken some of its pages
+pub record Stayed (m : Machine) (c : Command) (S : Machine → Type 0) : Type 0 where
+  pub count : ℕ
+  pub after : S (dos (take count (takes m c)) m)
+
+-- From m the machine may answer a command so, and go on to a state of S.
+abbrev pub Step : Machine → Command → Reply → (Machine → Type 0) → Type 0
+Step m c r S = by (refusal m c)
+  where
+    by : Option Reply → Type 0
+    by None = (r ≡ answer m c) × S (dos (parts m c) m)
+    by (Some why) = (r ≡ why) × Stayed m c S

@@ -1,0 +1,136 @@
+-- The record machine: what a store means, as plain data.
+use Rattle.std.specs.Prelude.{◌==◌, ◌+◌, ◌-◌, ◌*◌, ◌/◌, ◌%◌, ◌^◌, ◌&&◌, ℕ, Bool, false, List, [], Option, Some, None, is_none, option_map, fold, length, min, replicate, if◌then◌else◌}
+use Rattle.std.specs.List.{list_any, position}
+use Rattle.std.specs.FinMap as finite
+use Rattle.sd_base.specs.declared.names.GroupNo.{GroupNo}
+use Rattle.sd_base.specs.declared.names.TxnId.{TxnId}
+use Rattle.sd_base.specs.declared.shape.Shape.{Shape}
+use Rattle.space_map.specs.declared.map_entry.MapEntry.{MapEntry}
+use Rattle.space_map.specs.declared.map_entry.MapEntry.TheVariants.{Free}
+use Rattle.space_map.specs.Entry.{is_free, is_used_by}
+use Rattle.record_locks.specs.Held.{Held}
+
+-- what a node is: not in use, in use, or stopped, and then redone
+pub data NodeMode : Type 0 where
+  Idle : NodeMode
+  Up : NodeMode
+  Down : NodeMode
+  Redone : NodeMode
+
+-- a write: of which key, in which page its record stands, and the new value, or that the record is absent
+pub record Write : Type 0 where
+  pub key : ℕ
+  pub page : ℕ
+  pub value : Option (List ℕ)
+
+-- What the transaction in a seat has done, with the number of the log record: it began, or wrote a record.
+pub record Deed : Type 0 where
+  pub number : ℕ
+  pub seat : ℕ
+  pub write : Option Write
+
+-- The state of an open store.
+pub record Machine : Type 0 where
+  pub shape : Shape
+  -- what each node is
+  pub mode : ℕ → NodeMode
+  -- all nodes have stopped, and not all of them are recovered yet
+  pub reopening : Bool
+  -- the committed record of each key
+  pub records : ℕ → Option (List ℕ)
+  -- what the open transactions of each node have done, in the order of the log
+  pub pending : ℕ → List Deed
+  pub locks : Held
+  -- the entries of each map page
+  pub entries : ℕ → List MapEntry
+  -- the identifier of each page; of an unused page, that of its entry
+  pub ident : ℕ → ℕ
+  -- which node holds each page
+  pub hold : ℕ → Option ℕ
+  -- of each node's log, its first block and the number of its next record
+  pub start : ℕ → ℕ
+  pub tail : ℕ → ℕ
+
+-- the same function, but for one argument
+abbrev pub put : {A : Type 0} → ℕ → A → (ℕ → A) → ℕ → A
+put n a f k = if k == n then a else f k
+
+-- as a store is formatted
+abbrev pub formatted : Shape → Machine
+formatted s = record {
+  shape = s;
+  mode = λ n. Idle;
+  reopening = false;
+  records = λ key. None;
+  pending = λ n. [];
+  locks = finite.empty;
+  entries = λ x. replicate 252 (Free s.birth);
+  ident = λ x. s.birth;
+  hold = λ x. None;
+  start = λ n. 0;
+  tail = λ n. 0;
+}
+
+-- ---- pages and groups
+
+-- a group is sixteen keys, which stand in one page
+abbrev pub group_of : ℕ → GroupNo
+group_of key = record { 0 = key / 16 }
+
+-- the map page that may have an entry for the group
+abbrev pub map_of : Machine → ℕ → ℕ
+map_of m key = (key / 16) % m.shape.maps
+
+-- the data page of a place of a map page
+abbrev pub page_at : Machine → ℕ → ℕ → ℕ
+page_at m map place = m.shape.maps + 252 * map + place
+
+-- the page of the key's group, if it has one
+abbrev pub home : Machine → ℕ → Option ℕ
+home m key = option_map (page_at m (map_of m key)) (position (is_used_by (group_of key)) (m.entries (map_of m key)))
+
+-- the place that the group gets if it has none, and the page of that place
+abbrev pub free_place : Machine → ℕ → Option ℕ
+free_place m key = position is_free (m.entries (map_of m key))
+
+abbrev pub new_home : Machine → ℕ → Option ℕ
+new_home m key = option_map (page_at m (map_of m key)) (free_place m key)
+
+-- ---- open transactions
+
+-- what a deed leaves of the record of a key, as the transaction in a seat sees it
+abbrev pub written : ℕ → ℕ → Option (List ℕ) → Deed → Option (List ℕ)
+written seat key v d = if d.seat == seat then wrote d.write else v
+  where
+    wrote : Option Write → Option (List ℕ)
+    wrote None = v
+    wrote (Some w) = if w.key == key then w.value else v
+
+-- what these deeds leave of it
+abbrev pub overlaid : ℕ → ℕ → Option (List ℕ) → List Deed → Option (List ℕ)
+overlaid seat key v deeds = fold (written seat key) v deeds
+
+-- what a transaction sees of a key: its own last write of it, or else the committed record
+abbrev pub seen : Machine → TxnId → ℕ → Option (List ℕ)
+seen m t key = overlaid t.seat key (m.records key) (m.pending t.node.0)
+
+-- a seat with an open transaction
+abbrev pub is_begin_in : ℕ → Deed → Bool
+is_begin_in seat d = d.seat == seat && is_none d.write
+
+abbrev pub is_busy : Machine → TxnId → Bool
+is_busy m t = list_any (is_begin_in t.seat) (m.pending t.node.0)
+
+-- ---- the room of a log
+
+-- how many records the log of a node has
+abbrev pub used : Machine → ℕ → ℕ
+used m n = m.tail n - 6 * m.start n
+
+-- how many records its open transactions may still need: an end record for each, and a compensation for each write
+abbrev pub owed : Machine → ℕ → ℕ
+owed m n = length (m.pending n)
+
+-- how many more there is room for
+abbrev pub room : Machine → ℕ → ℕ
+room m n = min (6 * m.shape.ring - used m n) (6 * 2 ^ 56 - m.tail n) - owed m n

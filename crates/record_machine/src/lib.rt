@@ -1,0 +1,10 @@
+//! The record machine: the definition of what the store means, and the laws about it.
+//!
+//! It has no run-time call but its laws. A state of the machine, what a command is refused for, and
+//! what each part of a command does to the state are plain data; the store is proved to do what the
+//! machine does. It stands on the words of the layers that the store is made of.
+#![tactic(auto)]
+
+mod laws;
+
+pub use laws::{law_of_formatted_stores, law_of_parts, law_of_present_records};
