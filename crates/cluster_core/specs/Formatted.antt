@@ -9,7 +9,7 @@ use Rattle.sd_base.specs.declared.shape.Shape.{Shape}
 use Rattle.page_image.specs.Image.{image_text, birth_image}
 use Rattle.space_map.specs.Image.{map_text, birth_map}
 use Rattle.cluster_core.specs.Places.{first_image, IsSpare}
-use Rattle.cluster_core.specs.Device.{IsQuiet}
+use Rattle.cluster_core.specs.Device.{IsQuiet, NarrowsAt}
 
 -- the disk behind its super: each node's log is empty and starts with log block 0, and each page is as it is born
 pub record IsBornDisk (s : Shape) (b : ℕ → BlockState) : Type 0 where
@@ -39,4 +39,15 @@ pub record FormatsDisk (s : Shape) (old new : ℕ → BlockState) : Type 0 where
 -- What it does to the blocks of a vault.
 pub record FormatsVault (s : Shape) (old new : ℕ → BlockState) : Type 0 where
   pub spare : (k : ℕ) → IsSpare s k → new k ≡ old k
+  pub quiet : IsQuiet new
+
+-- What it does to the blocks of a disk where it has stopped all ports first.
+pub record TakesDisk (s : Shape) (old new : ℕ → BlockState) : Type 0 where
+  pub super : (o : Option (List ℕ)) → MayHold new 0 o → MayHold old 0 o ⊎ (o ≡ Some (super_text false s))
+  pub behind : (k : ℕ) → disk_need s ≤ k → NarrowsAt k old new
+  pub quiet : IsQuiet new
+
+-- And to those of a vault.
+pub record TakesVault (s : Shape) (old new : ℕ → BlockState) : Type 0 where
+  pub spare : (k : ℕ) → IsSpare s k → NarrowsAt k old new
   pub quiet : IsQuiet new

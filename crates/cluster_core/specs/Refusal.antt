@@ -1,11 +1,11 @@
 -- What a format answers before it writes.
-use Rattle.std.specs.Prelude.{◌≡◌, ◌≤◌, ◌<◌, ⊤, ℕ, Bool, true, false, List, Option, Some, Result, Ok, Err}
+use Rattle.std.specs.Prelude.{◌≡◌, ◌⊎◌, ◌≤◌, ◌<◌, ⊤, ℕ, Bool, true, false, List, Option, Some, Result, Ok, Err}
 use Rattle.sd_base.specs.Disk.{DiskState, MayHold, Rose}
 use Rattle.sd_base.specs.Shape.{IsShape, disk_need}
 use Rattle.sd_base.specs.Supers.{super_text}
 use Rattle.sd_base.specs.declared.shape.Shape.{Shape}
 use Rattle.script_text.specs.declared.reply.Reply.{Reply}
-use Rattle.script_text.specs.declared.reply.Reply.TheVariants.{Formatted, SmallDisk, SmallVault, Stopped, Fault}
+use Rattle.script_text.specs.declared.reply.Reply.TheVariants.{Formatted, NoMem, SmallDisk, SmallVault, Stopped, Fault}
 use Rattle.cluster_core.specs.Places.{vault_need}
 
 -- a content that is a disk super
@@ -24,19 +24,22 @@ MayHaveSuper d = (0 < d.size) × ((o : Option (List ℕ)) × MayHold d.block 0 o
 abbrev pub MustHaveSuper : DiskState → Type 0
 MustHaveSuper d = (0 < d.size) × ((o : Option (List ℕ)) → MayHold d.block 0 o → IsSuper o)
 
--- P where the answer is that a store stands on the disk, and Q where it is that none does; a stop comes before either
-abbrev pub OnFound : Result (Unit {0}) Reply → Type 0 → Type 0 → Type 0
+-- P where the answer is that a store stands on the disk, and Q where it is one that comes only where none does; a stop
+-- comes before either
+abbrev pub OnFound : {T : Type 0} → Result T Reply → Type 0 → Type 0 → Type 0
 OnFound (Ok x) P Q = Q
 OnFound (Err Formatted) P Q = P
 OnFound (Err (SmallDisk need have)) P Q = Q
 OnFound (Err (SmallVault need have)) P Q = Q
+OnFound (Err NoMem) P Q = Q
 OnFound (Err reply) P Q = ⊤
 
 -- what an answer says of the sizes of the two devices
-abbrev pub FitsSizes : Shape → Result (Unit {0}) Reply → ℕ → ℕ → Type 0
+abbrev pub FitsSizes : {T : Type 0} → Shape → Result T Reply → ℕ → ℕ → Type 0
 FitsSizes s (Ok x) disk vault = (disk_need s ≤ disk) × (vault_need s ≤ vault)
 FitsSizes s (Err (SmallDisk need have)) disk vault = (disk < disk_need s) × (need ≡ disk_need s) × (have ≡ disk)
 FitsSizes s (Err (SmallVault need have)) disk vault = (disk_need s ≤ disk) × (vault < vault_need s) × (need ≡ vault_need s) × (have ≡ vault)
+FitsSizes s (Err NoMem) disk vault = (disk_need s ≤ disk) × (vault_need s ≤ vault)
 FitsSizes s (Err reply) disk vault = ⊤
 
 -- the answer is a stop or a fault of node 1, and that count of the node's port rose
@@ -51,6 +54,10 @@ IsRefusal Formatted old new = ⊤
 IsRefusal (SmallDisk need have) old new = ⊤
 IsRefusal (SmallVault need have) old new = ⊤
 IsRefusal reply old new = IsStopAt reply old new
+
+-- why a store isn't formatted: there is no memory, a test refuses it, or a port stopped while it was written
+abbrev pub IsFormatRefusal : Reply → DiskState → DiskState → DiskState → DiskState → Type 0
+IsFormatRefusal reply disk disk' vault vault' = (reply ≡ NoMem) ⊎ IsRefusal reply disk disk' ⊎ IsStopAt reply vault vault'
 
 -- what a look for a super says of a disk
 abbrev pub FindsSuper : Bool → DiskState → Type 0

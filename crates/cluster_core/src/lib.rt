@@ -1,21 +1,38 @@
-//! The store of several nodes over a disk and a vault.
+//! The commands of a store: one node's cache and transactions, its locks and its pages, put together.
 //!
-//! Today it formats: it tells a disk with a store from one without, and writes an empty store, so that
-//! whatever a stop leaves, a disk super stands only on a whole store (`may_format`, `write_store`). It
-//! stands on `sd_base` for the devices and the places of the blocks, on `page_image` and `space_map`
-//! for the pages as they are born, and on `private_log` for what an empty log is.
+//! It promises upward that a command does what the record machine does, and is refused for what the
+//! machine refuses it for; and that a store is formatted whole, or not at all. It stands on `txn_core`
+//! for a node's transactions, on `record_locks` and `page_owner` for who may touch what, and on
+//! `record_machine` for what all that means.
 #![tactic(auto)]
 
+mod changing;
+mod checking;
+mod cluster;
+mod executing;
 mod formatting;
+mod getting;
+mod halting;
 mod laws;
+mod node;
+mod opening;
+mod paging;
 mod places;
+mod putting;
+mod reading;
 mod refusal;
 mod reply;
+mod starting;
 mod stretch;
+mod taking;
+mod transacting;
 mod writing;
 
+pub use cluster::Cluster;
 pub use formatting::{may_format, write_store};
 pub use laws::{law_of_formatted_disks, law_of_formatted_outcomes, law_of_formatted_vaults};
 
+#[cfg(test)]
+mod opening_tests;
 #[cfg(test)]
 mod tests;

@@ -1,7 +1,7 @@
 ghost use Rattle.std.specs.Prelude.{◌≡◌, [], All, IfNone, IfSome, IsTrue, Some};
 ghost use Rattle.std.specs.Borrow.{sem};
 ghost use Rattle.frame_pool.specs.Frames.{frame_at};
-ghost use Rattle.node_cache.specs.Cache.{AreOut, IsLeastChange, is_cached, is_changed, page_at};
+ghost use Rattle.node_cache.specs.Cache.{AreOut, IsCache, IsLeastChange, is_cached, is_changed, page_at};
 
 use crate::pages::Pages;
 use frame_pool::Pool;
@@ -44,6 +44,14 @@ impl NodeCache {
             node,
             pages: Pages::new(),
         }
+    }
+
+    /// What each cache is: it has at most 16 pages, each with a ticket of its node, and none has a page or
+    /// a frame twice.
+    pub fn law_of_pages(&self)
+        ensures { IsCache self.now.node self.now.pages }
+    {
+        let _ = &self.node;
     }
 
     /// Whether a page is cached.

@@ -7,3 +7,4 @@ pub mod UseSteps
 pub mod SealSteps
 pub mod LockSteps
 pub mod FormattedLaws
+pub mod Steps

@@ -14,7 +14,7 @@ use Rattle.record_locks.specs.Order.{lock, same_txn}
 use Rattle.record_locks.proofs.CompatibleLaws.{IsCompatible-locks_where, IsCompatible-taken}
 use Rattle.record_locks.proofs.HeldLaws.{get-locks_where, get-taken}
 use Rattle.record_machine.specs.Machine.{Machine, home, seen}
-use Rattle.record_machine.specs.Parts.{Lock, Take, Unlock, one}
+use Rattle.record_machine.specs.Parts.{Start, Lock, Take, Unlock, one}
 use Rattle.record_machine.specs.Meaning.{AreLocked, AreLogs, ArePages, Means, Plain, has_written}
 use Rattle.record_machine.proofs.DeedSteps.{one_txn}
 use Rattle.record_machine.proofs.SealSteps.{seen_nothing}
@@ -88,6 +88,26 @@ logs_still p m held was = record { tail = was.tail; deeds = was.deeds; homes = w
 -- nor on who holds the pages
 pub means_taken : (p : Plain) (m : Machine) (x n : ℕ) → Means p m → Means p (one (Take x n) m)
 means_taken p m x n was = record {
+  pages = record {
+    shape = was.pages.shape;
+    count = was.pages.count;
+    map_number = was.pages.map_number;
+    number = was.pages.number;
+    entries = was.pages.entries;
+    map_ident = was.pages.map_ident;
+    ident = was.pages.ident;
+    alive = was.pages.alive;
+    unused = was.pages.unused;
+    present = was.pages.present;
+    absent = was.pages.absent;
+  };
+  logs = record { tail = was.logs.tail; deeds = was.logs.deeds; homes = was.logs.homes };
+  locked = record { apart = was.locked.apart; written = was.locked.written };
+}
+
+-- a node that starts changes nothing that the logs, the pages and the locks mean
+pub means_started : (p : Plain) (m : Machine) (n : ℕ) → Means p m → Means p (one (Start n) m)
+means_started p m n was = record {
   pages = record {
     shape = was.pages.shape;
     count = was.pages.count;

@@ -42,7 +42,7 @@ home_kept n map place g m key count free apart = ap (option_map (page_at m (map_
     not_it = let not : (g.0 == key / 16) ≡ false = grind (arith, nat_tests) in not
 
 -- and the one of the group
-home_new : (n place : ℕ) (m : Machine) (key other : ℕ) → length (m.entries (map_of m key)) ≡ 252 → home m key ≡ None → position is_free (m.entries (map_of m key)) ≡ Some place → key / 16 ≡ other / 16
+pub home_new : (n place : ℕ) (m : Machine) (key other : ℕ) → length (m.entries (map_of m key)) ≡ 252 → home m key ≡ None → position is_free (m.entries (map_of m key)) ≡ Some place → key / 16 ≡ other / 16
     → home (one (Use n (map_of m key) place (group_of key)) m) other ≡ Some (page_at m (map_of m key) place)
 home_new n place m key other count none free same =
     let low = (free_there m (map_of m key) place count free).0 in

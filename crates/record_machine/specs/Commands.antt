@@ -58,14 +58,14 @@ abbrev pub no_txn : Machine → TxnId → Option Reply
 no_txn m t = where_so (not (is_busy m t)) (says.NotTxn t)
 
 -- the lock can't be had
+abbrev pub lock_refusal : LockAnswer → Option Reply
+lock_refusal Free = None
+lock_refusal Mine = None
+lock_refusal (Conflict u) = Some (says.Locked u)
+lock_refusal Full = Some says.LocksFull
+
 abbrev pub no_lock : Machine → Key → TxnId → Mode → Option Reply
-no_lock m key t mode = told (lock_answer m.locks key t mode)
-  where
-    told : LockAnswer → Option Reply
-    told Free = None
-    told Mine = None
-    told (Conflict u) = Some (says.Locked u)
-    told Full = Some says.LocksFull
+no_lock m key t mode = lock_refusal (lock_answer m.locks key t mode)
 
 -- no further change may be made of a page
 abbrev pub at_limit : Machine → ℕ → Option Reply

@@ -1,6 +1,6 @@
-mod CommandLength
-mod Running
-mod Serving
-mod Paging
-mod Formatting
 mod Buffering
+mod Counting
+mod Running
+mod Formats
+mod Answering
+mod Serving

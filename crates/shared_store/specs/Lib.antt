@@ -1,13 +1,9 @@
-pub mod Command
-pub mod Reply
 pub mod LineBuffer
 pub mod Output
-pub mod Device
-pub mod Records
-pub mod Tie
+pub mod Devices
+pub mod Causes
+pub mod StoreState
+pub mod Store
 pub mod Transcript
 pub mod Serving
 pub mod Job
-pub mod ReadPage
-pub mod FaultReply
-pub mod Format

@@ -1,71 +1,51 @@
--- What a run of the store prints, and what it leaves on the device.
-use Rattle.std.specs.Prelude.{◌≡◌, ◌+◌, ◌-◌, ◌≤◌, ◌^◌, ℕ, Bool, true, false, List, [], ◌∷◌, ◌++◌, take, min, count_by, All}
+-- What a run of the store prints, and what state it ends in.
+use Rattle.std.specs.Prelude.{◌≡◌, ℕ, Bool, List, [], ◌∷◌, ◌++◌, take, All}
 use Rattle.std.specs.List.{flat_map}
-use Rattle.sd_base.specs.Disk.{BlockState, DiskState}
 use Rattle.script_text.specs.Lines.{Splits, ended, HasNoFeed, EndsLine, lines_read, answered}
-use Rattle.shared_store.specs.Records.{StoreState, shut, opened, Run}
-use Rattle.shared_store.specs.Reply.{reply_text}
-use Rattle.shared_store.specs.Device.{IsQuiet}
-use Rattle.shared_store.specs.Tie.{ShowsSeal, ShowsOpen}
-use Rattle.shared_store.specs.declared.reply.Reply.{Reply}
-use Rattle.shared_store.specs.declared.reply.Reply.TheVariants as says
+use Rattle.script_text.specs.Reply.{reply_text}
+use Rattle.script_text.specs.declared.reply.Reply.{Reply}
+use Rattle.shared_store.specs.Causes.{AreCounted}
+use Rattle.shared_store.specs.Devices.{Devices}
+use Rattle.shared_store.specs.StoreState.{StoreState, Run}
 
--- What a job begins with: the state that the device shows, the device, and what the sink has taken.
+-- What a job begins with: the state that the devices show, the devices, and what the sink has taken.
 pub record Beginning : Type 0 where
   pub state : StoreState
-  pub disk : DiskState
+  pub devices : Devices
   pub taken : List ℕ
+
+-- from there the lines may be answered with these replies, and the store end in a state of S
+abbrev pub RunFrom : Beginning → List (List ℕ) → List Reply → (StoreState → Type 0) → Type 0
+RunFrom from lines replies S = Run from.devices.disk.size from.devices.vault.size from.state lines replies S
 
 -- the replies' lines, one after another
 abbrev pub transcript_text : List Reply → List ℕ
 transcript_text replies = flat_map reply_text replies
 
-abbrev pub is_stopped : Reply → Bool
-is_stopped (says.Stopped node) = true
-is_stopped reply = false
-
-abbrev pub is_fault : Reply → Bool
-is_fault (says.Fault node) = true
-is_fault reply = false
-
--- there are at most as many stops and faults as the counts of port 1 rose, unless a count stands at its end
-pub record AreCounted (replies : List Reply) (old new : DiskState) : Type 0 where
-  pub stops : min (old.cuts 1 + count_by is_stopped replies) (2 ^ 64 - 1) ≤ new.cuts 1
-  pub faults : min (old.faults 1 + count_by is_fault replies) (2 ^ 64 - 1) ≤ new.faults 1
-
--- the blocks show the state, whatever a stop leaves of them
-abbrev pub Leaves : ℕ → (ℕ → BlockState) → StoreState → Type 0
-Leaves size b (shut seal) = ShowsSeal size b seal
-Leaves size b (opened records changes) = ShowsOpen size b records changes × IsQuiet b
-
--- The bytes were read as lines, each line that gets a reply was answered, the sink took the replies' lines, and the
--- device shows the state that the run ends in.
-pub record Transcribes (at_end : Bool) (from : Beginning) (bytes : List ℕ) (now : DiskState) (taken : List ℕ) : Type 0 where
+-- The bytes were read as lines, each line that gets a reply was answered, the sink took the replies' lines, and the store
+-- ended in a state of S.
+pub record Transcribes (at_end : Bool) (from : Beginning) (bytes : List ℕ) (S : StoreState → Type 0) (now : Devices) (taken : List ℕ) : Type 0 where
   pub lines : List (List ℕ)
   pub rest : List ℕ
   pub replies : List Reply
-  pub end : StoreState
   pub splits : Splits bytes lines rest
-  pub run : Run from.disk.size from.state (answered (lines_read at_end lines rest)) replies end
+  pub run : RunFrom from (answered (lines_read at_end lines rest)) replies S
   pub printed : taken ≡ from.taken ++ transcript_text replies
-  pub counted : AreCounted replies from.disk now
-  pub leaves : Leaves from.disk.size now.block end
+  pub counted : AreCounted replies from.devices now
 
 -- The sink failed while it was given a reply: the lines up to that one were answered, no line behind it was executed,
 -- and the sink took the replies' lines but for the end of the last one.
-pub record TranscribesPart (from : Beginning) (bytes : List ℕ) (now : DiskState) (taken : List ℕ) : Type 0 where
+pub record TranscribesPart (from : Beginning) (bytes : List ℕ) (S : StoreState → Type 0) (now : Devices) (taken : List ℕ) : Type 0 where
   pub lines : List (List ℕ)
   pub line : List ℕ
   pub rest : List ℕ
   pub replies : List Reply
   pub last : Reply
-  pub end : StoreState
   pub whole : bytes ≡ (flat_map ended lines ++ line) ++ rest
   pub each : All HasNoFeed lines
   pub no_feed : HasNoFeed line
   pub ends : EndsLine rest
-  pub run : Run from.disk.size from.state (answered (lines ++ line ∷ [])) (replies ++ last ∷ []) end
+  pub run : RunFrom from (answered (lines ++ line ∷ [])) (replies ++ last ∷ []) S
   pub length_taken : ℕ
   pub printed : taken ≡ (from.taken ++ transcript_text replies) ++ take length_taken (reply_text last)
-  pub counted : AreCounted (replies ++ last ∷ []) from.disk now
-  pub leaves : Leaves from.disk.size now.block end
+  pub counted : AreCounted (replies ++ last ∷ []) from.devices now

@@ -1,10 +1,10 @@
 ghost use Rattle.std.specs.Prelude.{◌≡◌, ◌++◌, ◌∷◌, [], ℕ, List};
-ghost use Rattle.shared_store.specs.Command.{Means, HasKey};
-ghost use Rattle.shared_store.specs.LineBuffer.{HoldsLine};
+ghost use Rattle.script_text.specs.Command.{InRange, Means};
 ghost use Rattle.script_text.specs.Lines.{is_silent};
+ghost use Rattle.shared_store.specs.LineBuffer.{HoldsLine};
 
-use crate::command::{Command, read_line};
 use arrayvec::ArrayVec;
+use script_text::{Command, read_line};
 
 /// The longest line that is read, without its line feed.
 pub(crate) const MAX_LINE: usize = 1024;
@@ -59,7 +59,7 @@ impl LineBuffer {
     /// What the line means.
     pub(crate) fn command(&self) -> Command
         ensures means { (line : List ℕ) → HoldsLine self.now line → Means line result }
-        ensures key { HasKey result }
+        ensures range { InRange result }
     {
         if self.is_long {
             Command::Bad

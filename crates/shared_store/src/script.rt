@@ -1,10 +1,13 @@
-ghost use Rattle.std.specs.Prelude.{◌≡◌, ◌≢◌, ◌≤◌, ◌<◌, ◌^◌, ◌↔◌, ℕ, [], IsTrue, vec_len};
-ghost use Rattle.sd_base.specs.Disk.{Rose};
+ghost use Rattle.std.specs.Prelude.{◌≡◌, ◌≢◌, ◌≤◌, ◌<◌, ◌^◌, ◌↔◌, [], IsTrue, vec_len};
+ghost use Rattle.sd_base.specs.Disk.{DiskState, Rose};
 ghost use Rattle.sd_base.specs.Stream.{GivesCount, GivesBytes};
-ghost use Rattle.shared_store.specs.Records.{Seal};
+ghost use Rattle.shared_store.specs.Devices.{GoesOn, OpensNoPort, both};
+ghost use Rattle.shared_store.specs.Job.{IsBounded, TellsJob, beginning, status_number};
 ghost use Rattle.shared_store.specs.Output.{StaysFlushed};
-ghost use Rattle.shared_store.specs.Tie.{ShowsSeal};
-ghost use Rattle.shared_store.specs.Job.{beginning, TellsJob, IsBounded, status_number};
+ghost use Rattle.shared_store.specs.Serving.{Served};
+ghost use Rattle.shared_store.specs.Store.{CanServe, IsQuiet, KeepsPorts, Leaves, Shows, ShowsSeal};
+ghost use Rattle.shared_store.specs.StoreState.{Seal};
+ghost use Rattle.shared_store.specs.Transcript.{Beginning};
 
 use crate::line::LineBuffer;
 use crate::session::Session;
@@ -48,23 +51,27 @@ const MAX_SCRIPT: u64 = 1 << 40;
 /// How many bytes are asked for at once.
 const PIECE: usize = 4096;
 
-/// Executes the script that the source gives, over the disk, and writes the transcript to the sink.
+/// Executes the script that the source gives, over the disk and the vault, and writes the transcript
+/// to the sink.
 ///
-/// The first word is the program's name; any further word is a usage fault. The vault isn't touched.
+/// The first word is the program's name; any further word is a usage fault. A store that is open at
+/// the end is closed.
 pub fn run<S: Source, K: Sink, D: Disk, V: Disk>(
-    _alloc: Global,
+    alloc: Global,
     words: &Vec<String>,
     source: &mut S,
     sink: &mut K,
     disk: &mut D,
-    _vault: &mut V,
+    vault: &mut V,
 ) -> Status
     requires { (S.state source.old).given ≤ 2 ^ 63 }
 
     ensures usage { result ≡ Status.Usage ↔ (vec_len words.now ≢ 1) }
-    ensures unused { result ≡ Status.Usage → (source.new ≡ source.old) × (sink.new ≡ sink.old) × (disk.new ≡ disk.old) }
-    ensures vault { _vault.new ≡ _vault.old }
+    ensures unused { result ≡ Status.Usage → (source.new ≡ source.old) × (sink.new ≡ sink.old) × (disk.new ≡ disk.old) × (vault.new ≡ vault.old) }
     ensures orders { (D.state disk.new).orders ≡ (D.state disk.old).orders }
+    ensures vault_orders { (V.state vault.new).orders ≡ (V.state vault.old).orders }
+    ensures ports { OpensNoPort (D.state disk.old) (D.state disk.new) }
+    ensures vault_ports { OpensNoPort (V.state vault.old) (V.state vault.new) }
 
     ensures read_fault { result ≡ Status.ReadFault → Rose (S.state source.old).faults (S.state source.new).faults }
     ensures write_fault { result ≡ Status.WriteFault → Rose (K.state sink.old).faults (K.state sink.new).faults }
@@ -72,34 +79,73 @@ pub fn run<S: Source, K: Sink, D: Disk, V: Disk>(
 
     ensures done { result ≡ Status.Done → IsTrue S.told → (S.state source.new).left ≡ [] }
     ensures flushed { result ≡ Status.Done → IsTrue K.told → StaysFlushed (K.state sink.old) (K.state sink.new) }
-    ensures transcript { IsTrue S.told → IsTrue K.told → IsTrue D.told → (seal : Seal)
-        → ShowsSeal (D.state disk.old).size (D.state disk.old).block seal
-        → TellsJob result (beginning seal (D.state disk.old) (K.state sink.old)) (S.state source.old) (S.state source.new) (D.state disk.new) (K.state sink.new) }
+    ensures transcript { IsTrue S.told → IsTrue K.told → IsTrue D.told → (seal : Seal) → ShowsSeal (D.state disk.old) seal
+        → TellsJob result (beginning seal (both (D.state disk.old) (V.state vault.old)) (K.state sink.old)) (S.state source.old) (S.state source.new) (Leaves (D.state disk.new)) (both (D.state disk.new) (V.state vault.new)) (K.state sink.new) }
 {
     if words.len() != 1 {
         return Status::Usage;
     }
-    run_script(source, sink, disk)
+    run_script(alloc, source, sink, disk, vault)
 }
 
-/// The script job.
-fn run_script<S: Source, K: Sink, D: Disk>(source: &mut S, sink: &mut K, disk: &mut D) -> Status
+/// The script job: it begins with no store open, and closes the one that is open at its end.
+fn run_script<S: Source, K: Sink, D: Disk, V: Disk>(
+    alloc: Global,
+    source: &mut S,
+    sink: &mut K,
+    disk: &mut D,
+    vault: &mut V,
+) -> Status
     requires { (S.state source.old).given ≤ 2 ^ 63 }
     ensures usage { result ≢ Status.Usage }
-    ensures orders { (D.state disk.new).orders ≡ (D.state disk.old).orders }
+    ensures disk { GoesOn (D.state disk.old) (D.state disk.new) }
+    ensures vault { GoesOn (V.state vault.old) (V.state vault.new) }
+    ensures ports { OpensNoPort (D.state disk.old) (D.state disk.new) }
+    ensures vault_ports { OpensNoPort (V.state vault.old) (V.state vault.new) }
     ensures read_fault { result ≡ Status.ReadFault → Rose (S.state source.old).faults (S.state source.new).faults }
     ensures write_fault { result ≡ Status.WriteFault → Rose (K.state sink.old).faults (K.state sink.new).faults }
     ensures bounded { IsBounded result (S.state source.old) (S.state source.new) }
     ensures done { result ≡ Status.Done → IsTrue S.told → (S.state source.new).left ≡ [] }
     ensures flushed { result ≡ Status.Done → IsTrue K.told → StaysFlushed (K.state sink.old) (K.state sink.new) }
-    ensures transcript { IsTrue S.told → IsTrue K.told → IsTrue D.told → (seal : Seal)
-        → ShowsSeal (D.state disk.old).size (D.state disk.old).block seal
-        → TellsJob result (beginning seal (D.state disk.old) (K.state sink.old)) (S.state source.old) (S.state source.new) (D.state disk.new) (K.state sink.new) }
+    ensures transcript { IsTrue S.told → IsTrue K.told → IsTrue D.told → (seal : Seal) → ShowsSeal (D.state disk.old) seal
+        → TellsJob result (beginning seal (both (D.state disk.old) (V.state vault.old)) (K.state sink.old)) (S.state source.old) (S.state source.new) (Leaves (D.state disk.new)) (both (D.state disk.new) (V.state vault.new)) (K.state sink.new) }
 {
     let mut session = Session {
-        store: Store { is_open: false },
+        store: Store::Closed,
         line: LineBuffer::new(),
     };
+    let status = read_script(&mut session, alloc, source, sink, disk, vault);
+    let Session { store, line: _line } = session;
+    store.close(disk, vault);
+    status
+}
+
+/// Reads the script to its end, and answers its lines.
+fn read_script<S: Source, K: Sink, D: Disk, V: Disk>(
+    session: &mut Session,
+    alloc: Global,
+    source: &mut S,
+    sink: &mut K,
+    disk: &mut D,
+    vault: &mut V,
+) -> Status
+    requires given { (S.state source.old).given ≤ 2 ^ 63 }
+    requires ready { CanServe session.old.store (D.state disk.old) (V.state vault.old) }
+    requires quiet { IsTrue D.told → IsQuiet session.old.store (D.state disk.old).block }
+    ensures usage { result ≢ Status.Usage }
+    ensures disk { GoesOn (D.state disk.old) (D.state disk.new) }
+    ensures vault { GoesOn (V.state vault.old) (V.state vault.new) }
+    ensures ports { (first : DiskState) → KeepsPorts session.old.store first (D.state disk.old) → KeepsPorts session.new.store first (D.state disk.new) }
+    ensures vault_ports { (first : DiskState) → KeepsPorts session.old.store first (V.state vault.old) → KeepsPorts session.new.store first (V.state vault.new) }
+    ensures read_fault { result ≡ Status.ReadFault → Rose (S.state source.old).faults (S.state source.new).faults }
+    ensures write_fault { result ≡ Status.WriteFault → Rose (K.state sink.old).faults (K.state sink.new).faults }
+    ensures bounded { IsBounded result (S.state source.old) (S.state source.new) }
+    ensures done { result ≡ Status.Done → IsTrue S.told → (S.state source.new).left ≡ [] }
+    ensures flushed { result ≡ Status.Done → IsTrue K.told → StaysFlushed (K.state sink.old) (K.state sink.new) }
+    ensures transcript { IsTrue S.told → IsTrue K.told → IsTrue D.told → (from : Beginning)
+        → Served from [] session.old.line session.old.store (both (D.state disk.old) (V.state vault.old)) (K.state sink.old)
+        → TellsJob result from (S.state source.old) (S.state source.new) (Shows session.new.store (D.state disk.new)) (both (D.state disk.new) (V.state vault.new)) (K.state sink.new) }
+{
     let mut piece = [0; PIECE];
     let mut given: u64 = 0;
     while given < MAX_SCRIPT {
@@ -107,7 +153,7 @@ fn run_script<S: Source, K: Sink, D: Disk>(source: &mut S, sink: &mut K, disk: &
         match read_piece(source, &mut piece, room) {
             Took::End => {
                 // A last line without a line feed counts too.
-                let is_answered = session.answer_line(sink, disk);
+                let is_answered = session.answer_line(alloc, sink, disk, vault);
                 return if is_answered {
                     Status::Done
                 } else {
@@ -117,7 +163,7 @@ fn run_script<S: Source, K: Sink, D: Disk>(source: &mut S, sink: &mut K, disk: &
             Took::Failed => return Status::ReadFault,
             Took::Got(n) => {
                 given += n as u64;
-                if !session.feed(sink, disk, &piece[..n]) {
+                if !session.feed(alloc, sink, disk, vault, &piece[..n]) {
                     return Status::WriteFault;
                 }
             }

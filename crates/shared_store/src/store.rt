@@ -1,81 +1,151 @@
-ghost use Rattle.std.specs.Prelude.{◌≡◌, IsTrue};
-ghost use Rattle.sd_base.specs.Faults.{Grew};
-ghost use Rattle.shared_store.specs.Command.{HasKey};
-ghost use Rattle.shared_store.specs.Device.{IsQuiet};
-ghost use Rattle.shared_store.specs.Records.{StoreState, Answers, after};
-ghost use Rattle.shared_store.specs.Tie.{Shows, HasCause, CanServe, IsAnsweredAlone, is_fine, is_stop};
+ghost use Rattle.std.specs.Prelude.{◌≡◌, ◌≢◌, IsTrue};
+ghost use Rattle.sd_base.specs.Disk.{DiskState};
+ghost use Rattle.sd_base.specs.Shape.{IsShape};
+ghost use Rattle.script_text.specs.Command.{InRange};
+ghost use Rattle.shared_store.specs.Causes.{HasCause};
+ghost use Rattle.shared_store.specs.Devices.{GoesOn, OpensNoPort, both};
+ghost use Rattle.shared_store.specs.Store.{CanServe, IsAnsweredAlone, IsQuiet, KeepsPorts, Leaves, Shows, ShowsSeal};
+ghost use Rattle.shared_store.specs.StoreState.{Answered, Seal, StoreState, shut};
 
-use crate::command::Command;
-use crate::format::format_disk;
-use crate::record::{read_record, write_record};
-use crate::reply::Reply;
-use sd_base::Disk;
+use cluster_core::Cluster;
+use script_text::{Command, Reply};
+use sd_base::{Disk, Shape};
+use std::alloc::Global;
+use std::mem;
 
-/// The store of one node, which writes each change through to its device. It keeps nothing but
-/// whether it is open.
-#[derive(Clone, Copy, Debug, PartialEq, Eq)]
-pub(crate) struct Store {
-    pub(crate) is_open: bool,
+/// The store of a session.
+///
+/// An open one can be neither copied nor let go: `close` ends it.
+pub(crate) enum Store {
+    /// No store is open.
+    Closed,
+    /// A store is open.
+    Open(Cluster),
 }
 
 impl Store {
-    /// Executes a command. A stop or a failure of the node closes the store.
-    pub(crate) fn exec<D: Disk>(&mut self, disk: &mut D, command: &Command) -> Reply
-        requires key { HasKey command.now }
-        requires ready { CanServe self.old.is_open (D.state disk.old) }
-        requires quiet { IsTrue D.told → IsTrue self.old.is_open → IsQuiet (D.state disk.old).block }
-        ensures ready { CanServe self.new.is_open (D.state disk.new) }
-        ensures quiet { IsTrue D.told → IsTrue self.new.is_open → IsQuiet (D.state disk.new).block }
-        ensures size { (D.state disk.new).size ≡ (D.state disk.old).size }
-        ensures orders { (D.state disk.new).orders ≡ (D.state disk.old).orders }
-        ensures grew { Grew (D.state disk.old) (D.state disk.new) }
-        ensures untouched { IsAnsweredAlone self.old.is_open command.now → disk.new ≡ disk.old }
-        ensures cause { HasCause result (D.state disk.old) (D.state disk.new) }
-        ensures answer { IsTrue D.told → (state : StoreState) → Shows self.old.is_open (D.state disk.old).size (D.state disk.old).block state
-            → Answers (D.state disk.old).size state command.now result }
-        ensures shows { IsTrue D.told → (state : StoreState) → Shows self.old.is_open (D.state disk.old).size (D.state disk.old).block state
-            → Shows self.new.is_open (D.state disk.old).size (D.state disk.new).block (after state command.now result) }
+    /// Executes a command. A `format` that is done opens the store.
+    pub(crate) fn exec<D: Disk, V: Disk>(
+        &mut self,
+        alloc: Global,
+        disk: &mut D,
+        vault: &mut V,
+        command: &Command,
+    ) -> Reply
+        requires range { InRange command.now }
+        requires ready { CanServe self.old (D.state disk.old) (V.state vault.old) }
+        requires quiet { IsTrue D.told → IsQuiet self.old (D.state disk.old).block }
+        ensures ready { CanServe self.new (D.state disk.new) (V.state vault.new) }
+        ensures quiet { IsTrue D.told → IsQuiet self.new (D.state disk.new).block }
+        ensures disk { GoesOn (D.state disk.old) (D.state disk.new) }
+        ensures vault { GoesOn (V.state vault.old) (V.state vault.new) }
+        ensures cause { HasCause result (both (D.state disk.old) (V.state vault.old)) (both (D.state disk.new) (V.state vault.new)) }
+        ensures untouched { IsAnsweredAlone self.old command.now → (disk.new ≡ disk.old) × (vault.new ≡ vault.old) }
+        ensures printed { result ≢ Reply.NoMore }
+        ensures ports { (first : DiskState) → KeepsPorts self.old first (D.state disk.old) → KeepsPorts self.new first (D.state disk.new) }
+        ensures vault_ports { (first : DiskState) → KeepsPorts self.old first (V.state vault.old) → KeepsPorts self.new first (V.state vault.new) }
+        ensures answered { IsTrue D.told → (state : StoreState) → Shows self.old (D.state disk.old) state
+            → Answered (D.state disk.old).size (V.state vault.old).size state command.now result (Shows self.new (D.state disk.new)) }
     {
-        match *command {
-            Command::Bad => Reply::Bad,
-            Command::Format => {
-                if self.is_open {
-                    return Reply::Formatted;
-                }
-                let reply = format_disk(disk);
-                self.is_open = says_fine(&reply);
-                reply
-            }
-            Command::Get(key) => {
-                if !self.is_open {
-                    return Reply::Closed;
-                }
-                let reply = read_record(disk, key);
-                self.is_open = !says_stop(&reply);
-                reply
-            }
-            Command::Put(key, value) => {
-                if !self.is_open {
-                    return Reply::Closed;
-                }
-                let reply = write_record(disk, key, value);
-                self.is_open = !says_stop(&reply);
-                reply
-            }
+        match self {
+            Store::Open(cluster) => cluster.exec(disk, vault, command),
+            Store::Closed => self.exec_closed(alloc, disk, vault, command),
         }
     }
-}
 
-/// Whether the reply says that it was done.
-fn says_fine(reply: &Reply) -> bool
-    ensures { result ≡ is_fine reply.now }
-{
-    matches!(reply, Reply::Fine)
-}
+    /// Executes a command while no store is open. A form that the store doesn't know yet is bad, as
+    /// with a store.
+    fn exec_closed<D: Disk, V: Disk>(
+        &mut self,
+        alloc: Global,
+        disk: &mut D,
+        vault: &mut V,
+        command: &Command,
+    ) -> Reply
+        requires range { InRange command.now }
+        requires closed { self.old ≡ Store.Closed }
+        ensures ready { CanServe self.new (D.state disk.new) (V.state vault.new) }
+        ensures quiet { IsTrue D.told → IsQuiet self.new (D.state disk.new).block }
+        ensures disk { GoesOn (D.state disk.old) (D.state disk.new) }
+        ensures vault { GoesOn (V.state vault.old) (V.state vault.new) }
+        ensures cause { HasCause result (both (D.state disk.old) (V.state vault.old)) (both (D.state disk.new) (V.state vault.new)) }
+        ensures untouched { IsAnsweredAlone self.old command.now → (disk.new ≡ disk.old) × (vault.new ≡ vault.old) }
+        ensures printed { result ≢ Reply.NoMore }
+        ensures ports { KeepsPorts self.new (D.state disk.old) (D.state disk.new) }
+        ensures vault_ports { KeepsPorts self.new (V.state vault.old) (V.state vault.new) }
+        ensures answered { IsTrue D.told → (seal : Seal) → ShowsSeal (D.state disk.old) seal
+            → Answered (D.state disk.old).size (V.state vault.old).size (shut seal) command.now result (Shows self.new (D.state disk.new)) }
+    {
+        match *command {
+            Command::Format(shape) => self.format(alloc, disk, vault, shape),
+            Command::Start(_)
+            | Command::Begin(_)
+            | Command::Get(..)
+            | Command::Put(..)
+            | Command::Commit(_) => Reply::Closed,
+            Command::Bad
+            | Command::Append(..)
+            | Command::Del(..)
+            | Command::Abort(_)
+            | Command::Flush(_)
+            | Command::Dump(_)
+            | Command::Stat(_) => Reply::Bad,
+        }
+    }
 
-/// Whether the reply says that the node stopped.
-fn says_stop(reply: &Reply) -> bool
-    ensures { result ≡ is_stop reply.now }
-{
-    matches!(reply, Reply::Stopped(_) | Reply::Fault(_))
+    /// Writes an empty store of this shape, and opens it.
+    fn format<D: Disk, V: Disk>(
+        &mut self,
+        alloc: Global,
+        disk: &mut D,
+        vault: &mut V,
+        shape: Shape,
+    ) -> Reply
+        requires shape { IsShape shape }
+        requires one { shape.nodes ≡ 1 }
+        requires closed { self.old ≡ Store.Closed }
+        ensures ready { CanServe self.new (D.state disk.new) (V.state vault.new) }
+        ensures quiet { IsTrue D.told → IsQuiet self.new (D.state disk.new).block }
+        ensures disk { GoesOn (D.state disk.old) (D.state disk.new) }
+        ensures vault { GoesOn (V.state vault.old) (V.state vault.new) }
+        ensures cause { HasCause result (both (D.state disk.old) (V.state vault.old)) (both (D.state disk.new) (V.state vault.new)) }
+        ensures printed { result ≢ Reply.NoMore }
+        ensures ports { KeepsPorts self.new (D.state disk.old) (D.state disk.new) }
+        ensures vault_ports { KeepsPorts self.new (V.state vault.old) (V.state vault.new) }
+        ensures answered { IsTrue D.told → (seal : Seal) → ShowsSeal (D.state disk.old) seal
+            → Answered (D.state disk.old).size (V.state vault.old).size (shut seal) (Command.Format shape) result (Shows self.new (D.state disk.new)) }
+    {
+        match Cluster::format(alloc, disk, vault, shape) {
+            Ok(cluster) => {
+                self.open(cluster);
+                Reply::Fine
+            }
+            Err(why) => why,
+        }
+    }
+
+    /// Opens a store where none is open.
+    fn open(&mut self, cluster: Cluster)
+        requires { self.old ≡ Store.Closed }
+        ensures { self.new ≡ Store.Open cluster }
+    {
+        match mem::replace(self, Store::Open(cluster)) {
+            Store::Closed => (),
+            Store::Open(_cluster) => unreachable!(),
+        }
+    }
+
+    /// Ends the store that is open, if one is: all ports of both devices stop.
+    pub(crate) fn close<D: Disk, V: Disk>(self, disk: &mut D, vault: &mut V)
+        ensures disk { GoesOn (D.state disk.old) (D.state disk.new) }
+        ensures vault { GoesOn (V.state vault.old) (V.state vault.new) }
+        ensures ports { (first : DiskState) → KeepsPorts self first (D.state disk.old) → OpensNoPort first (D.state disk.new) }
+        ensures vault_ports { (first : DiskState) → KeepsPorts self first (V.state vault.old) → OpensNoPort first (V.state vault.new) }
+        ensures leaves { IsTrue D.told → (state : StoreState) → Shows self (D.state disk.old) state → Leaves (D.state disk.new) state }
+    {
+        match self {
+            Store::Open(cluster) => cluster.close(disk, vault),
+            Store::Closed => (),
+        }
+    }
 }

@@ -18,6 +18,8 @@ pub use streams::{Script, Transcript};
 #[cfg(test)]
 mod client_tests;
 #[cfg(test)]
+mod command_tests;
+#[cfg(test)]
 mod format_tests;
 #[cfg(test)]
 mod log_tests;
@@ -25,3 +27,5 @@ mod log_tests;
 mod page_tests;
 #[cfg(test)]
 mod tests;
+#[cfg(test)]
+mod trial;

@@ -19,7 +19,7 @@ use Rattle.txn_core.specs.Undo.{IsPageOf}
 use Rattle.txn_core.specs.Updates.{HasPage}
 
 -- what holds of all holds of the one that is found
-find_all : {X : Type 0} (P : X → Type 0) (test : X → Bool) (xs : List X) (x : X) → find test xs ≡ Some x → All P xs → P x
+pub find_all : {X : Type 0} (P : X → Type 0) (test : X → Bool) (xs : List X) (x : X) → find test xs ≡ Some x → All P xs → P x
 find_all P test [] x is all = absurd (let never : None ≡ Some x = is in cc)
 find_all P test (y ∷ ys) x is all = by (test y) refl is (λ on. find_all P test ys x on (λ k d below. all (suc k) d (omega (arith, below))))
   where

@@ -1,4 +1,4 @@
-ghost use Rattle.std.specs.Prelude.{◌<◌, ◌^◌, unwrap_or, ◌≡◌, ◌≢◌, ◌+◌, ◌*◌, ◌≤◌, ℕ, true, false, [], ◌∷◌, ◌++◌, List, Option, Some, None, IsTrue, IfSome, IfErr, OnOk, OnErr, length, map, slice_set};
+ghost use Rattle.std.specs.Prelude.{◌<◌, ◌^◌, unwrap_or, ◌≡◌, ◌≢◌, ◌+◌, ◌*◌, ◌%◌, ◌≤◌, ℕ, true, false, [], ◌∷◌, ◌++◌, List, Option, Some, None, IsTrue, IsOk, IfSome, IfErr, OnOk, OnErr, length, map, slice_set};
 ghost use Rattle.sd_base.specs.Disk.{IsOutcome};
 ghost use Rattle.sd_base.specs.Calls.{Keeps, NoNewWriterBut, KeepsForeignBut};
 ghost use Rattle.sd_base.specs.Faults.{Caused, IsStopOf};
@@ -112,6 +112,8 @@ impl Seats {
         ensures writers { IsTrue D.told → NoNewWriterBut (next_place c.old.log) c.old.node.0 (D.state disk.old).block (D.state disk.new).block }
         ensures foreign { IsTrue D.told → KeepsForeignBut (next_place c.old.log) c.old.node.0 (D.state disk.old).block (D.state disk.new).block }
         ensures contents { OnOk result (IsTrue D.told → KeepsContents (next_place c.old.log) (D.state disk.old).block (D.state disk.new).block) }
+        ensures memory { (c.old.log.tail + 1) % 6 ≢ 0 → disk.new ≡ disk.old }
+        ensures sure { (c.old.log.tail + 1) % 6 ≢ 0 → IsOk result }
         ensures node { self.new.node ≡ self.old.node }
         ensures cache_node { c.new.node ≡ c.old.node }
         ensures same { SameLog c.old.log c.new.log }

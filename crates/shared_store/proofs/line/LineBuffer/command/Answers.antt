@@ -1,12 +1,12 @@
-use Rattle.std.proofs.Common.{◌∙◌, ℕ, List, subst}
-use Rattle.shared_store.specs.Command.{Means}
+use Rattle.std.proofs.Common.{◌∙◌, ℕ, List, subst, arith}
+use Rattle.script_text.specs.Command.{Means}
 use Rattle.shared_store.proofs.Buffering.{not_long, held_whole}
-use Rattle.shared_store.proofs.CommandLength.{spelling_is_short}
+use Rattle.script_text.proofs.LineLengths.{length-line}
 use Rattle.shared_store.proofs.line.LineBuffer.command.Goals as goal
 
 pub returns-then-self-clause-means : goal.returns-then-self-clause-means
 returns-then-self-clause-means c = λ line holds command spells.
-    let short = holds.short (spelling_is_short line command spells) in cc
+    let short = holds.short (omega (arith, length-line line command spells)) in cc
 
 pub returns-else-self-clause-means : goal.returns-else-self-clause-means
 returns-else-self-clause-means c = λ line holds.

@@ -1,0 +1,69 @@
+-- A cached page of a node that is up has an image: a map page has entries, and a data page slots.
+use Rattle.std.specs.Prelude.{◌≡◌, ◌≤◌, ◌<◌, ℕ, IsTrue, List, Option, Some, None, IfSome, is_some, refl}
+use Rattle.std.proofs.Common.{arith, ap, subst, sym, ◌∙◌}
+use Rattle.sd_base.specs.declared.names.PageNo.{PageNo}
+use Rattle.sd_base.specs.declared.shape.Shape.{Shape}
+use Rattle.frame_pool.specs.Frames.{frame_at}
+use Rattle.page_image.specs.declared.page_view.PageView.{PageView}
+use Rattle.page_image.specs.Image.{IsTextOf}
+use Rattle.space_map.specs.Image.{IsMapText, MapImage}
+use Rattle.state_ids.specs.PageImage.{PageImage, data_page, map_page, page_of}
+use Rattle.state_ids.specs.Held.{Shows}
+use Rattle.state_ids.specs.Blocks.{IsOfKind, ShowsPage}
+use Rattle.node_cache.specs.Cache.{AreShown, CachedPage, CacheState, is_cached, is_page, page_at}
+use Rattle.node_cache.proofs.OnePage.{found, is_page-same}
+use Rattle.txn_core.specs.Updates.{HasPage}
+use Rattle.txn_core.proofs.CompensationLaws.{find_all}
+use Rattle.node_cache.specs.Room.{map_of}
+use Rattle.cluster_core.specs.declared.node.Node.{Node}
+use Rattle.cluster_core.specs.declared.node.Node.TheVariants.{Down, Idle, Up}
+use Rattle.cluster_core.specs.Changes.{HasMap, ShowsMap}
+use Rattle.cluster_core.specs.Cluster.{ClusterState}
+use Rattle.cluster_core.specs.Places.{page_number}
+use Rattle.cluster_core.specs.Ports.{OnUp}
+
+module _ (s : Shape) (pool : List (Option (List ℕ))) (c : CacheState) (x : PageNo) (bytes : List ℕ) (shown : AreShown s pool c) where
+  -- what its frame shows
+  shown_at : (p : CachedPage) → page_at x c.pages ≡ Some p → ShowsPage s x pool p.frame
+  shown_at p at = subst (λ y. ShowsPage s y pool p.frame) (is_page-same x p (found (is_page x) c.pages p at)) (find_all (λ q. ShowsPage s q.ticket.page pool q.frame) (is_page x) c.pages p at shown)
+
+  pub map_at : x.0 < s.maps → IsTrue (is_cached x c) → IfSome (page_at x c.pages) (λ p. frame_at pool p.frame ≡ Some bytes) → (image : MapImage) × HasMap pool c.pages x image × IsMapText image bytes
+  map_at low cached holds = by (page_at x c.pages) refl cached holds
+    where
+      of : (p : CachedPage) → page_at x c.pages ≡ Some p → frame_at pool p.frame ≡ Some bytes → (image : PageImage) → Shows pool p.frame image → page_of image ≡ x → IsOfKind s image → (image : MapImage) × HasMap pool c.pages x image × IsMapText image bytes
+      of p at here (data_page v) shows number kind = let n : v.page.0 ≡ x.0 = ap (λ (y : PageNo). y.0) number in absurd (omega (arith, kind, n, low))
+      of p at here (map_page image) shows number kind =
+          let both : Some shows.bytes ≡ Some bytes = sym shows.held ∙ here in
+          let same : shows.bytes ≡ bytes = cc in
+          (image, record { page = p; there = at; shows = shows; number = number }, subst (IsMapText image) same shows.text)
+
+      by : (o : Option CachedPage) → page_at x c.pages ≡ o → IsTrue (is_some o) → IfSome o (λ p. frame_at pool p.frame ≡ Some bytes) → (image : MapImage) × HasMap pool c.pages x image × IsMapText image bytes
+      by None at some here = cc
+      by (Some p) at some here = let is = shown_at p at in of p at here is.0 is.1 is.2 is.3
+
+  pub data_at : s.maps ≤ x.0 → IsTrue (is_cached x c) → IfSome (page_at x c.pages) (λ p. frame_at pool p.frame ≡ Some bytes) → (v : PageView) × HasPage pool c.pages x v × IsTextOf v bytes
+  data_at far cached holds = by (page_at x c.pages) refl cached holds
+    where
+      of : (p : CachedPage) → page_at x c.pages ≡ Some p → frame_at pool p.frame ≡ Some bytes → (image : PageImage) → Shows pool p.frame image → page_of image ≡ x → IsOfKind s image → (v : PageView) × HasPage pool c.pages x v × IsTextOf v bytes
+      of p at here (map_page image) shows number kind = let n : image.page.0 ≡ x.0 = ap (λ (y : PageNo). y.0) number in absurd (omega (arith, kind, n, far))
+      of p at here (data_page v) shows number kind =
+          let both : Some shows.bytes ≡ Some bytes = sym shows.held ∙ here in
+          let same : shows.bytes ≡ bytes = cc in
+          (v, record { page = p; there = at; shows = shows; number = number }, subst (IsTextOf v) same shows.text)
+
+      by : (o : Option CachedPage) → page_at x c.pages ≡ o → IsTrue (is_some o) → IfSome o (λ p. frame_at pool p.frame ≡ Some bytes) → (v : PageView) × HasPage pool c.pages x v × IsTextOf v bytes
+      by None at some here = cc
+      by (Some p) at some here = let is = shown_at p at in of p at here is.0 is.1 is.2 is.3
+
+-- the map page of a place of it
+pub map_of_page : (s : Shape) (x map : PageNo) (place : ℕ) → place ≤ 251 → x.0 ≡ page_number s map.0 place → map_of s x ≡ map
+map_of_page s x map place low at = let number : (map_of s x).0 ≡ map.0 = omega (arith, low, at) in ap (λ n. record { 0 = n }) number
+
+-- a page with an image is cached
+pub cached_map : (c : ClusterState) (x : PageNo) (image : MapImage) → ShowsMap c x image → OnUp c.node (λ k seats. IsTrue (is_cached x k))
+cached_map c x image shows = by c.node shows
+  where
+    by : (node : Node) → OnUp node (λ k seats. HasMap c.pool k.pages x image) → OnUp node (λ k seats. IsTrue (is_cached x k))
+    by Idle has = tt
+    by (Up k seats) has = ap is_some has.there
+    by Down has = tt

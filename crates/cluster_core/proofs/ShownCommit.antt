@@ -1,0 +1,89 @@
+-- What a cluster shows after a transaction was committed.
+use Rattle.std.specs.Prelude.{◌≡◌, ◌≢◌, ◌==◌, ◌*◌, ◌<◌, ◌≤◌, ◌++◌, ◌∷◌, [], ℕ, Bool, true, false, not, List, Option, Some, None, All, IfSome, IsTrue, is_some, filter, length, map, slice_index_or, slice_set, refl}
+use Rattle.std.proofs.Common.{arith, inl, inr, ap, subst, sym, ◌∙◌}
+use Rattle.std.proofs.lemmas.Bool.{cases_eq}
+use Rattle.std.proofs.lemmas.Bool.Decides.{nat_tests}
+use Rattle.std.proofs.lemmas.List.{get_or-set_other, get_or-set_same}
+use Rattle.std.proofs.lemmas.List.Elements.{All-filter}
+use Rattle.sd_base.specs.Disk.{BlockState}
+use Rattle.sd_base.specs.declared.names.TxnId.{TxnId}
+use Rattle.sd_base.specs.declared.shape.Shape.{Shape}
+use Rattle.log_record.specs.declared.record.LogRecord.TheVariants.{Commit}
+use Rattle.private_log.specs.Frames.{NarrowsBeside}
+use Rattle.private_log.specs.Log.{SameLog, next_place}
+use Rattle.compensation.specs.Left.{is_update_of, next_after}
+use Rattle.node_cache.specs.Cache.{CacheState, IsOfStore, IsTiedToLog}
+use Rattle.txn_core.specs.Seats.{OpenTxn, SeatsState, is_busy, txn_in}
+use Rattle.txn_core.specs.Told.{AreTold, HasRecords}
+use Rattle.record_machine.specs.Machine.{Deed, Machine, put}
+use Rattle.record_machine.specs.Meaning.{Plain, logged}
+use Rattle.record_machine.specs.Parts.{Seal, Unlock, dos}
+use Rattle.cluster_core.specs.Shows.{ShowsUp, deeds_in, numbers_of}
+use Rattle.cluster_core.proofs.ShownBegin.{numbers-other}
+use Rattle.cluster_core.proofs.ShownLogged.{up_logged}
+
+-- the deeds of all seats but one
+abbrev pub but_seat : ℕ → List Deed → List Deed
+but_seat seat ds = filter (λ d. not (d.seat == seat)) ds
+
+-- it has none among them
+pub deeds_gone : (seat : ℕ) (ds : List Deed) → deeds_in seat (but_seat seat ds) ≡ []
+deeds_gone seat [] = refl
+deeds_gone seat (d ∷ ds) = by (d.seat == seat) refl (deeds_gone seat ds)
+  where
+    by : (b : Bool) → (d.seat == seat) ≡ b → deeds_in seat (but_seat seat ds) ≡ [] → deeds_in seat (but_seat seat (d ∷ ds)) ≡ []
+    by true is rest = rw is rest
+    by false is rest = rw is (rw is rest)
+
+-- another seat has all its own
+pub deeds_stay : (seat other : ℕ) (ds : List Deed) → other ≢ seat → deeds_in other (but_seat seat ds) ≡ deeds_in other ds
+deeds_stay seat other [] apart = refl
+deeds_stay seat other (d ∷ ds) apart = by (d.seat == seat) (d.seat == other) refl refl (deeds_stay seat other ds apart)
+  where
+    by : (a b : Bool) → (d.seat == seat) ≡ a → (d.seat == other) ≡ b → deeds_in other (but_seat seat ds) ≡ deeds_in other ds → deeds_in other (but_seat seat (d ∷ ds)) ≡ deeds_in other (d ∷ ds)
+    by true true mine its rest = let a : d.seat ≡ seat = grind (arith, nat_tests) in let b : d.seat ≡ other = grind (arith, nat_tests) in absurd (apart (sym b ∙ a))
+    by true false mine its rest = rw mine (rw its rest)
+    by false true mine its rest = rw mine (rw its (ap (λ es. d ∷ es) rest))
+    by false false mine its rest = rw mine (rw its rest)
+
+-- the transaction in a busy seat
+pub txn_of : (seats : SeatsState) (seat : ℕ) → IsTrue (is_busy seats seat) → (txn : OpenTxn) × (txn_in seats seat ≡ Some txn)
+txn_of seats seat busy = by (txn_in seats seat) refl busy
+  where
+    by : (o : Option OpenTxn) → txn_in seats seat ≡ o → IsTrue (is_some o) → (txn : OpenTxn) × (txn_in seats seat ≡ Some txn)
+    by None is some = cc
+    by (Some txn) is some = (txn, is)
+
+module _ (s : Shape) (pool : List (Option (List ℕ))) (c d : CacheState) (seats after : SeatsState) (b b' : ℕ → BlockState) (p : Plain) (m : Machine) (t : TxnId) (txn : OpenTxn) where
+  -- the numbers of each seat's records
+  committed_deeds : t.seat < length seats.seats → after.seats ≡ slice_set seats.seats t.seat None → ShowsUp s pool 1 c seats b p m
+      → (seat : ℕ) → seat < 8 → map (λ (e : Deed). e.number) (deeds_in seat (but_seat t.seat (m.pending 1))) ≡ numbers_of (6 * c.log.start) (p.live 1 ++ Commit txn.begin txn.last ∷ []) (txn_in after seat)
+  committed_deeds within new was seat low = elim (cases_eq t.seat seat) [
+    | inl here ↦
+        let free : txn_in after t.seat ≡ None = ap (λ os. slice_index_or os t.seat None) new ∙ get_or-set_same seats.seats t.seat None None within in
+        subst (λ k. map (λ (e : Deed). e.number) (deeds_in k (but_seat t.seat (m.pending 1))) ≡ numbers_of (6 * c.log.start) (p.live 1 ++ Commit txn.begin txn.last ∷ []) (txn_in after k)) here
+        (ap (map (λ (e : Deed). e.number)) (deeds_gone t.seat (m.pending 1)) ∙ ap (numbers_of (6 * c.log.start) (p.live 1 ++ Commit txn.begin txn.last ∷ [])) (sym free))
+    | inr other ↦
+        let same : txn_in after seat ≡ txn_in seats seat = ap (λ os. slice_index_or os seat None) new ∙ get_or-set_other seats.seats t.seat seat None None (λ e. other (sym e)) in
+        ap (map (λ (e : Deed). e.number)) (deeds_stay t.seat seat (m.pending 1) (λ e. other (sym e)))
+        ∙ was.deeds seat low
+        ∙ sym (numbers-other (6 * c.log.start) (p.live 1) (Commit txn.begin txn.last) (txn_in seats seat) (none_of (txn_in seats seat)))
+        ∙ ap (numbers_of (6 * c.log.start) (p.live 1 ++ Commit txn.begin txn.last ∷ [])) (sym same)
+  ]
+    where
+      none_of : (o : Option OpenTxn) → IfSome o (λ u. (is_update_of u.begin (Commit txn.begin txn.last) ≡ false) × (next_after u.begin (Commit txn.begin txn.last) ≡ None))
+      none_of None = tt
+      none_of (Some u) = (refl, refl)
+
+  -- the deeds of the node, which is node 1
+  deeds_left : t.node.0 ≡ 1 → (dos (Seal t ∷ Unlock t ∷ []) m).pending 1 ≡ but_seat t.seat (m.pending 1)
+  deeds_left node = ap (λ k. put k (but_seat t.seat (m.pending k)) m.pending 1) node
+
+  pub up_committed : length seats.seats ≡ 8 → IsOfStore s c → IsTiedToLog c → t.node.0 ≡ 1 → t.seat ≤ 7 → d.node ≡ c.node → d.pages ≡ c.pages → SameLog c.log d.log → NarrowsBeside (next_place c.log) b b'
+      → after.seats ≡ slice_set seats.seats t.seat None → HasRecords d.log b' (p.live 1 ++ Commit txn.begin txn.last ∷ []) → AreTold after c.log.start (p.live 1 ++ Commit txn.begin txn.last ∷ []) → ShowsUp s pool 1 c seats b p m
+      → ShowsUp s pool 1 d after b' (logged 1 (Commit txn.begin txn.last) p) (dos (Seal t ∷ Unlock t ∷ []) m)
+  up_committed count store tie one_node seat node pages same narrows new records told was =
+      let deeds = deeds_left one_node in
+      up_logged s pool c d seats after b b' p m (dos (Seal t ∷ Unlock t ∷ []) m) (Commit txn.begin txn.last) store tie node pages same refl narrows records told
+      (λ k low. ap (λ ds. map (λ (e : Deed). e.number) (deeds_in k ds)) deeds ∙ committed_deeds (omega (arith, seat, count)) new was k low)
+      (subst (All (λ (e : Deed). e.seat < 8)) (sym deeds) (All-filter (λ (e : Deed). not (e.seat == t.seat)) (λ (e : Deed). e.seat < 8) (m.pending 1) was.within)) was

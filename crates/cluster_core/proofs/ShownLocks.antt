@@ -1,0 +1,83 @@
+-- What a cluster shows after a lock was taken, and what a transaction reads under a lock.
+use Rattle.std.specs.Prelude.{◌≡◌, ◌≤◌, ◌<◌, ◌%◌, ◌++◌, ◌∷◌, [], ℕ, true, List, Option, Some, None, Ok, IsTrue, IfNone, IfSome, option_map, refl}
+use Rattle.std.proofs.Common.{ap, subst, sym, ◌∙◌}
+use Rattle.sd_base.specs.Disk.{BlockState}
+use Rattle.sd_base.specs.Shape.{page_count}
+use Rattle.sd_base.specs.declared.names.Key.{Key}
+use Rattle.sd_base.specs.declared.names.PageNo.{PageNo}
+use Rattle.sd_base.specs.declared.names.TxnId.{TxnId}
+use Rattle.sd_base.specs.declared.shape.Shape.{Shape}
+use Rattle.page_image.specs.declared.page_view.PageView.{PageView}
+use Rattle.compensation.specs.Inverse.{content}
+use Rattle.record_locks.specs.declared.mode.Mode.{Mode}
+use Rattle.record_locks.specs.Answer.{lock_answer, may_take}
+use Rattle.record_locks.specs.Held.{mode_of, raised, taken}
+use Rattle.record_locks.proofs.HeldLaws.{mode_of-taken}
+use Rattle.record_machine.specs.Commands.{found, takes_both}
+use Rattle.record_machine.specs.Machine.{Machine, home, seen}
+use Rattle.record_machine.specs.Parts.{Lock, Part, dos, one}
+use Rattle.record_machine.proofs.LockSteps.{seen_absent, seen_locked}
+use Rattle.record_machine.proofs.Steps.{means_locked}
+use Rattle.cluster_core.specs.declared.node.Node.{Node}
+use Rattle.cluster_core.specs.declared.node.Node.TheVariants.{Down, Idle, Up}
+use Rattle.cluster_core.specs.Answering.{reply_found}
+use Rattle.cluster_core.specs.Changes.{ShowsData}
+use Rattle.cluster_core.specs.Cluster.{ClusterState}
+use Rattle.cluster_core.specs.Ports.{is_up}
+use Rattle.cluster_core.specs.Shows.{IsShown, ShowsNode}
+use Rattle.cluster_core.proofs.ShownImages.{data_is}
+
+-- parts one after the other
+pub dos-append : (ps qs : List Part) (m : Machine) → dos (ps ++ qs) m ≡ dos qs (dos ps m)
+dos-append [] qs m = refl
+dos-append (p ∷ ps) qs m = dos-append ps qs (one p m)
+
+-- what the pages taken change nothing of
+pub takes_home : (m : Machine) (n key k : ℕ) (o : Option ℕ) → home (dos (takes_both m n key o) m) k ≡ home m k
+takes_home m n key k None = refl
+takes_home m n key k (Some x) = refl
+
+pub takes_seen : (m : Machine) (n key k : ℕ) (t : TxnId) (o : Option ℕ) → seen (dos (takes_both m n key o) m) t k ≡ seen m t k
+takes_seen m n key k t None = refl
+takes_seen m n key k t (Some x) = refl
+
+-- a lock more
+pub shown_locked : (c : ClusterState) (b : ℕ → BlockState) (m : Machine) (key : Key) (t : TxnId) (mode : Mode) → IsTrue (may_take (lock_answer c.locks key t mode)) → IsShown c b m → IsShown (record c { locks = taken c.locks key t mode }) b (one (Lock key t mode) m)
+shown_locked c b m key t mode free shown =
+    let s = shown.1 in (
+      shown.0,
+      record {
+        means = means_locked shown.0 m key t mode (subst (λ held. IsTrue (may_take (lock_answer held key t mode))) (sym s.locks) free) s.means;
+        shape = s.shape;
+        locks = ap (λ held. taken held key t mode) s.locks;
+        reopening = s.reopening;
+        node = by c.node s.node;
+      },
+    )
+  where
+    by : (node : Node) → ShowsNode c.shape c.pool node b shown.0 m → ShowsNode c.shape c.pool node b shown.0 (one (Lock key t mode) m)
+    by Idle is = (is.0, record { legal = is.1.legal; still = is.1.still; content = is.1.content; clean = is.1.clean; names = is.1.names; stored = is.1.stored; none = is.1.none })
+    by (Up d seats) is = (is.0, record { number = is.1.number; records = is.1.records; told = is.1.told; start = is.1.start; cached = is.1.cached; lives = is.1.lives; stored = is.1.stored; deeds = is.1.deeds; within = is.1.within })
+    by Down is = is
+
+-- the record of a key, read from the page of its group by a transaction that may have the lock
+pub read_is : (c : ClusterState) (b : ℕ → BlockState) (m : Machine) (key : Key) (t : TxnId) (mode : Mode) (page : Option PageNo) (value : Option (List ℕ)) → is_up c.node ≡ true → IsTrue (may_take (lock_answer c.locks key t mode)) → option_map (λ x. x.0) page ≡ home m key.0
+    → IfSome page (λ x. (c.shape.maps ≤ x.0) × (x.0 < page_count c.shape)) → IfNone page (value ≡ None) → IfSome page (λ x. (v : PageView) → ShowsData c x v → value ≡ content v (key.0 % 16)) → IfSome page (λ x. (v : PageView) × ShowsData c x v) → IsShown c b m → value ≡ seen m t key.0
+read_is c b m key t mode None value up free is within none some there shown =
+    let s = shown.1 in none ∙ sym (seen_absent shown.0 m key.0 t s.means.logs s.means.pages (sym is))
+read_is c b m key t mode (Some x) value up free is within none some there shown =
+    let s = shown.1 in
+    let after = means_locked shown.0 m key t mode (subst (λ held. IsTrue (may_take (lock_answer held key t mode))) (sym s.locks) free) s.means in
+    some there.0 there.1
+    ∙ ap (λ v. content v (key.0 % 16)) (data_is c b shown.0 m up s x there.0 within.0 within.1 there.1)
+    ∙ seen_locked shown.0 (one (Lock key t mode) m) key x.0 t (raised (mode_of m.locks key t) mode) after.locked after.pages (sym is) (mode_of-taken m.locks key t mode)
+
+-- and the reply with it
+pub found_is : (value : Option (List ℕ)) → reply_found (Ok value) ≡ found value
+found_is None = refl
+found_is (Some value) = refl
+
+-- a page that is one of the store's data pages
+pub still_within : (o : Option PageNo) (s after : Shape) (Q : PageNo → Type 0) → after ≡ s → IfSome o (λ x. (s.maps ≤ x.0) × (x.0 < page_count s) × Q x) → IfSome o (λ x. (after.maps ≤ x.0) × (x.0 < page_count after))
+still_within None s after Q same within = tt
+still_within (Some x) s after Q same within = subst (λ r. (r.maps ≤ x.0) × (x.0 < page_count r)) (sym same) (within.0, within.1)

@@ -1,0 +1,99 @@
+-- Why a command on a record gives another answer than that it is done, whatever its devices hold.
+use Rattle.std.specs.Prelude.{◌≡◌, ◌≢◌, ◌⊎◌, ◌^◌, ◌%◌, ◌≤◌, ◌<◌, ⊤, ℕ, true, List, Option, None, Ok}
+use Rattle.std.specs.List.{position}
+use Rattle.sd_base.specs.declared.names.Key.{Key}
+use Rattle.sd_base.specs.declared.names.PageNo.{PageNo}
+use Rattle.sd_base.specs.declared.shape.Shape.{Shape}
+use Rattle.page_image.specs.declared.page_view.PageView.{PageView}
+use Rattle.space_map.specs.Entry.{is_free, is_used_by}
+use Rattle.space_map.specs.Image.{MapImage}
+use Rattle.compensation.specs.Inverse.{content}
+use Rattle.private_log.specs.Content.{region_of}
+use Rattle.state_ids.specs.Blocks.{HoldsPage, page_place}
+use Rattle.state_ids.specs.PageImage.{PageImage}
+use Rattle.script_text.specs.declared.command.Command.{Command}
+use Rattle.script_text.specs.declared.command.Command.TheVariants as asks
+use Rattle.script_text.specs.declared.reply.Reply.{Reply}
+use Rattle.script_text.specs.declared.reply.Reply.TheVariants as says
+use Rattle.record_machine.specs.Machine.{group_of}
+use Rattle.cluster_core.specs.Answering.{reply_found}
+use Rattle.cluster_core.specs.Changes.{ShowsData, ShowsMap}
+use Rattle.cluster_core.specs.Cluster.{ClusterState}
+use Rattle.cluster_core.specs.FaultReply.{IsLogReply, IsToldDamaged}
+use Rattle.cluster_core.specs.Known.{room_in}
+use Rattle.cluster_core.specs.Places.{map_number, page_number}
+use Rattle.cluster_core.specs.Ports.{says_stop}
+
+-- ---- what stops a command at the disk
+
+-- A page that a command on a key may need: the map page of its group, or a data page whose entry that has.
+abbrev pub IsPageFor : Shape → Key → PageNo → Type 0
+IsPageFor s key x = (x.0 ≡ map_number s key.0) ⊎ ((place : ℕ) × (place ≤ 251) × (x.0 ≡ page_number s (map_number s key.0) place))
+
+-- the page x couldn't be taken: the node stopped, of which HasCause says the rest, or the page's block is lost or damaged
+abbrev pub IsFaultOfPage : Shape → PageNo → Reply → Type 0
+IsFaultOfPage s x (says.Stopped n) = ⊤
+IsFaultOfPage s x (says.Fault n) = ⊤
+IsFaultOfPage s x (says.LostPage y) = y ≡ x
+IsFaultOfPage s x (says.DamagedDisk at) = at.0 ≡ page_place s x
+IsFaultOfPage s x reply = ⊥
+
+-- a page that the key needs couldn't be taken
+abbrev pub IsFaultFor : Shape → Key → Reply → Type 0
+IsFaultFor s key reply = (x : PageNo) × IsPageFor s key x × IsFaultOfPage s x reply
+
+-- a page that is said to be lost is, and a block that is said to be damaged holds something, but no image of the page
+-- that belongs there
+abbrev pub IsToldOfPages : Shape → (ℕ → Option (List ℕ)) → Reply → Type 0
+IsToldOfPages s image (says.LostPage x) = image (page_place s x) ≡ None
+IsToldOfPages s image (says.DamagedDisk at) = (image at.0 ≢ None) × ((x : PageNo) (held : PageImage) → at.0 ≡ page_place s x → ¬ (HoldsPage s x held (image at.0)))
+IsToldOfPages s image reply = ⊤
+
+-- ---- what a write is refused for
+
+-- the identifier of the page, which the node has cached, is at its limit
+abbrev pub IsAtLimit : ClusterState → PageNo → Type 0
+IsAtLimit c x = ((image : MapImage) × ShowsMap c x image × (2 ^ 63 ≤ image.ident)) ⊎ ((v : PageView) × ShowsData c x v × (2 ^ 63 ≤ v.ident))
+
+-- no place of the map page, which the node has cached, is the group's
+abbrev pub HasNoPage : ClusterState → Key → Type 0
+HasNoPage c key = (image : MapImage) × ShowsMap c (record { 0 = map_number c.shape key.0 }) image × (position (is_used_by (group_of key.0)) image.entries ≡ None)
+
+-- all places of the map page, which the node has cached, are used
+abbrev pub HasNoPlace : ClusterState → PageNo → Type 0
+HasNoPlace c x = (image : MapImage) × ShowsMap c x image × (position is_free image.entries ≡ None)
+
+-- A write of the key is refused for what the node has in memory as the command leaves it. The log is to have room for
+-- the write and the end of its transaction, and where the group has no page for that too.
+abbrev pub IsRefusal : ClusterState → Key → Reply → Type 0
+IsRefusal c key (says.Limit x) = IsPageFor c.shape key x × IsAtLimit c x
+IsRefusal c key (says.NoSpace x) = (x.0 ≡ map_number c.shape key.0) × HasNoPlace c x × HasNoPage c key
+IsRefusal c key (says.LogFull need room) = ((need ≡ 2) ⊎ ((need ≡ 3) × HasNoPage c key)) × (room ≡ room_in c.node) × (room < need)
+IsRefusal c key reply = ⊥
+
+-- it is refused, or a page that it needs couldn't be taken
+abbrev pub IsPutReason : ClusterState → Key → Reply → Type 0
+IsPutReason c key reply = IsRefusal c key reply ⊎ IsFaultFor c.shape key reply
+
+-- ---- what is found
+
+-- What the node has in memory says so of the record: its group has no page, or the page shows it, or that there is none.
+abbrev pub IsFoundIn : ClusterState → Key → Option (List ℕ) → Type 0
+IsFoundIn c key found = ((found ≡ None) × HasNoPage c key) ⊎ ((x : PageNo) × IsPageFor c.shape key x × (v : PageView) × ShowsData c x v × (found ≡ content v (key.0 % 16)))
+
+-- ---- the answers of each command
+
+-- What is answered to a command that isn't refused before the disk is read, by the cluster as the command leaves it: that
+-- it is done, with the record where one is asked for, or why it isn't.
+abbrev pub IsAnswer : ClusterState → Command → Reply → Type 0
+IsAnswer c (asks.Start n) reply = (reply ≡ says.Fine) ⊎ IsLogReply (region_of c.shape 1) reply
+IsAnswer c (asks.Begin t) reply = (reply ≡ says.Fine) ⊎ (says_stop reply ≡ true)
+IsAnswer c (asks.Get t key) reply = ((found : Option (List ℕ)) × (reply ≡ reply_found (Ok found)) × IsFoundIn c key found) ⊎ IsFaultFor c.shape key reply
+IsAnswer c (asks.Put t key value) reply = (reply ≡ says.Fine) ⊎ IsPutReason c key reply
+IsAnswer c (asks.Commit t) reply = (reply ≡ says.Fine) ⊎ (says_stop reply ≡ true)
+IsAnswer c command reply = ⊥
+
+-- what the blocks hold of which the answer says that they are lost or damaged: those of the log, at a start, or of pages
+abbrev pub IsToldIn : Shape → (ℕ → Option (List ℕ)) → Command → Reply → Type 0
+IsToldIn s image (asks.Start n) reply = IsToldDamaged (region_of s 1) image reply
+IsToldIn s image command reply = IsToldOfPages s image reply

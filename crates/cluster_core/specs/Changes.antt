@@ -1,0 +1,56 @@
+-- What a change leaves of what a node has in memory.
+use Rattle.std.specs.Prelude.{◌≡◌, ◌+◌, ◌^◌, ◌++◌, ◌≤◌, ℕ, nat_le, List, [], Option, Some, None, Result, Ok, Err, unwrap_or, if◌then◌else◌}
+use Rattle.std.specs.List.{position}
+use Rattle.sd_base.specs.declared.names.PageNo.{PageNo}
+use Rattle.page_image.specs.declared.page_view.PageView.{PageView}
+use Rattle.space_map.specs.Entry.{is_free}
+use Rattle.space_map.specs.Image.{MapImage}
+use Rattle.private_log.specs.Log.{space}
+use Rattle.state_ids.specs.PageImage.{map_page}
+use Rattle.state_ids.specs.Held.{Shows}
+use Rattle.script_text.specs.declared.reply.Reply.{Reply}
+use Rattle.script_text.specs.declared.reply.Reply.TheVariants.{Limit, NoSpace}
+use Rattle.node_cache.specs.Cache.{CachedPage, CacheState, page_at}
+use Rattle.txn_core.specs.Seats.{SeatsState}
+use Rattle.txn_core.specs.Updates.{HasPage}
+use Rattle.txn_core.specs.declared.change.Change.{Change}
+use Rattle.cluster_core.specs.Cluster.{ClusterState}
+use Rattle.cluster_core.specs.Ports.{OnUp}
+use Rattle.txn_core.specs.declared.change.Change.TheVariants.{Put, Append, Delete}
+
+-- the record after a change of this one
+abbrev pub value_after : Change → Option (List ℕ) → Option (List ℕ)
+value_after (Put value) v = Some value
+value_after (Append bytes) v = Some (unwrap_or v [] ++ bytes)
+value_after Delete v = None
+
+-- the map page x is cached, with this in its frame
+pub record HasMap (pool : List (Option (List ℕ))) (pages : List CachedPage) (x : PageNo) (image : MapImage) : Type 0 where
+  pub page : CachedPage
+  pub there : page_at x pages ≡ Some page
+  pub shows : Shows pool page.frame (map_page image)
+  pub number : image.page ≡ x
+
+-- A node after a place of a map page came into use: its transactions are as before, its log has one record more, and its
+-- data pages, which begin at this one, are as they were.
+pub record UsesPlace (first : ℕ) (pool after : List (Option (List ℕ))) (c d : CacheState) (old new : SeatsState) : Type 0 where
+  pub seats : new ≡ old
+  pub tail : d.log.tail ≡ c.log.tail + 1
+  pub room : space d.log + 1 ≡ space c.log
+  pub pages : (x : PageNo) (v : PageView) → first ≤ x.0 → HasPage pool c.pages x v → HasPage after d.pages x v
+
+-- the node has the map page cached, or the data page, with this in its frame
+abbrev pub ShowsMap : ClusterState → PageNo → MapImage → Type 0
+ShowsMap c x image = OnUp c.node (λ k seats. HasMap c.pool k.pages x image)
+
+abbrev pub ShowsData : ClusterState → PageNo → PageView → Type 0
+ShowsData c x v = OnUp c.node (λ k seats. HasPage c.pool k.pages x v)
+
+-- The place of a map page that a group may get which has none, or why there is none: the page is at its limit, or all its
+-- places are used.
+abbrev pub place_or : Reply → Option ℕ → Result ℕ Reply
+place_or why None = Err why
+place_or why (Some place) = Ok place
+
+abbrev pub new_place : PageNo → MapImage → Result ℕ Reply
+new_place map image = if nat_le (2 ^ 63) image.ident then Err (Limit map) else place_or (NoSpace map) (position is_free image.entries)

@@ -1,0 +1,82 @@
+-- What a command is refused for by what is in memory.
+use Rattle.std.specs.Prelude.{◌∷◌, [], ◌-◌, ℕ, Bool, true, false, not, nat_lt, Option, Some, None, Result, Ok, Err}
+use Rattle.sd_base.specs.declared.device.NodeId.{NodeId}
+use Rattle.sd_base.specs.declared.names.Key.{Key}
+use Rattle.sd_base.specs.declared.names.TxnId.{TxnId}
+use Rattle.private_log.specs.Log.{space}
+use Rattle.record_locks.specs.declared.mode.Mode.{Mode}
+use Rattle.record_locks.specs.declared.mode.Mode.TheVariants as locks
+use Rattle.record_locks.specs.Answer.{lock_answer}
+use Rattle.script_text.specs.declared.command.Command.{Command}
+use Rattle.script_text.specs.declared.command.Command.TheVariants as asks
+use Rattle.script_text.specs.declared.reply.Reply.{Reply}
+use Rattle.script_text.specs.declared.reply.Reply.TheVariants as says
+use Rattle.txn_core.specs.Seats.{is_busy, owed}
+use Rattle.record_machine.specs.Commands.{first_of, lock_refusal, where_so}
+use Rattle.cluster_core.specs.declared.node.Node.{Node}
+use Rattle.cluster_core.specs.declared.node.Node.TheVariants.{Idle, Up, Down}
+use Rattle.cluster_core.specs.Cluster.{ClusterState}
+use Rattle.cluster_core.specs.Ports.{is_up}
+
+-- a test, of which this is the refusal if there is one
+abbrev pub checked : Option Reply → Result (Unit {0}) Reply
+checked None = Ok tt
+checked (Some why) = Err why
+
+abbrev pub is_idle : Node → Bool
+is_idle Idle = true
+is_idle (Up c seats) = false
+is_idle Down = false
+
+-- a seat of the node has an open transaction
+abbrev pub has_txn : Node → TxnId → Bool
+has_txn Idle t = false
+has_txn (Up c seats) t = is_busy seats t.seat
+has_txn Down t = false
+
+-- how many records there is room for in its log
+abbrev pub room_in : Node → ℕ
+room_in Idle = 0
+room_in (Up c seats) = space c.log - owed seats
+room_in Down = 0
+
+-- the store has no such node; the node isn't idle, or isn't up
+abbrev pub no_node : ClusterState → NodeId → Option Reply
+no_node c n = where_so (nat_lt c.shape.nodes n.0) (says.NoNode n)
+
+abbrev pub not_idle : ClusterState → NodeId → Option Reply
+not_idle c n = where_so (not (is_idle c.node)) (says.NotIdle n)
+
+abbrev pub not_up : ClusterState → NodeId → Option Reply
+not_up c n = where_so (not (is_up c.node)) (says.NotUp n)
+
+-- the transaction is open, or isn't
+abbrev pub busy : ClusterState → TxnId → Option Reply
+busy c t = where_so (has_txn c.node t) (says.Busy t)
+
+abbrev pub no_txn : ClusterState → TxnId → Option Reply
+no_txn c t = where_so (not (has_txn c.node t)) (says.NotTxn t)
+
+-- the lock can't be had
+abbrev pub no_lock : ClusterState → Key → TxnId → Mode → Option Reply
+no_lock c key t mode = lock_refusal (lock_answer c.locks key t mode)
+
+-- the log has no room for so many records
+abbrev pub no_room : ClusterState → ℕ → Option Reply
+no_room c need = where_so (nat_lt (room_in c.node) need) (says.LogFull need (room_in c.node))
+
+-- why a command is refused before the disk is read, if it is: the first of these reasons that there is
+abbrev pub known : ClusterState → Command → Option Reply
+known c (asks.Format s) = Some says.Formatted
+known c (asks.Start n) = first_of (no_node c n ∷ not_idle c n ∷ [])
+known c (asks.Begin t) = first_of (no_node c t.node ∷ not_up c t.node ∷ busy c t ∷ no_room c 2 ∷ [])
+known c (asks.Get t key) = first_of (no_node c t.node ∷ not_up c t.node ∷ no_txn c t ∷ no_lock c key t locks.Read ∷ [])
+known c (asks.Put t key value) = first_of (no_node c t.node ∷ not_up c t.node ∷ no_txn c t ∷ no_lock c key t locks.Write ∷ [])
+known c (asks.Commit t) = first_of (no_node c t.node ∷ not_up c t.node ∷ no_txn c t ∷ [])
+known c asks.Bad = Some says.Bad
+known c (asks.Append t key value) = Some says.Bad
+known c (asks.Del t key) = Some says.Bad
+known c (asks.Abort t) = Some says.Bad
+known c (asks.Flush n) = Some says.Bad
+known c (asks.Dump n) = Some says.Bad
+known c (asks.Stat n) = Some says.Bad

@@ -1,0 +1,87 @@
+ghost use Rattle.std.specs.Prelude.{◌≡◌, true, false, ℕ, List, Some, None, IsTrue};
+ghost use Rattle.sd_base.specs.Calls.{Keeps};
+ghost use Rattle.script_text.specs.Command.{InRange};
+ghost use Rattle.script_text.specs.declared.reply.Reply.{Reply};
+ghost use Rattle.record_machine.specs.Commands.{Step};
+ghost use Rattle.record_machine.specs.Machine.{Machine};
+ghost use Rattle.cluster_core.specs.Answering.{reply_found, reply_of};
+ghost use Rattle.private_log.specs.Reading.{contents};
+ghost use Rattle.cluster_core.specs.Causes.{IsAnswer, IsToldIn};
+ghost use Rattle.cluster_core.specs.Footprint.{IsAtHand, KeepsAllButLog};
+ghost use Rattle.cluster_core.specs.Known.{known};
+ghost use Rattle.cluster_core.specs.Ports.{HasCause, IsQuiet, IsServed, says_stop};
+ghost use Rattle.cluster_core.specs.Shows.{IsShown};
+
+use crate::cluster::Cluster;
+use script_text::{Command, Reply};
+use sd_base::{Disk, Key, TxnId, Value};
+
+/// The reply to a command of which nothing is asked but that it is done.
+fn reply_of(done: Result<(), Reply>) -> Reply
+    ensures { result ≡ reply_of done }
+{
+    match done {
+        Ok(()) => Reply::Fine,
+        Err(why) => why,
+    }
+}
+
+/// The reply to a command that asks for a record.
+fn reply_found(found: Result<Option<Value>, Reply>) -> Reply
+    ensures { result ≡ reply_found found }
+{
+    match found {
+        Ok(Some(value)) => Reply::Found(value),
+        Ok(None) => Reply::Absent,
+        Err(why) => why,
+    }
+}
+
+impl Cluster {
+    /// Executes a command.
+    ///
+    /// What is refused for what is in memory is refused before anything is done. Where a device call
+    /// stops the node, it goes down, and the command ends at once.
+    pub fn exec<D: Disk, V: Disk>(
+        &mut self,
+        disk: &mut D,
+        vault: &mut V,
+        command: &Command,
+    ) -> Reply
+        requires range { InRange command.now }
+        requires served { IsServed self.old (D.state disk.old) (V.state vault.old) }
+        requires quiet { IsTrue D.told → IsQuiet self.old (D.state disk.old).block }
+        ensures served { IsServed self.new (D.state disk.new) (V.state vault.new) }
+        ensures quiet { IsTrue D.told → IsQuiet self.new (D.state disk.new).block }
+        ensures keeps { Keeps 1 (D.state disk.old) (D.state disk.new) }
+        ensures vault_keeps { Keeps 1 (V.state vault.old) (V.state vault.new) }
+        ensures shape { self.new.shape ≡ self.old.shape }
+        ensures cause { HasCause result (D.state disk.old) (D.state disk.new) }
+        ensures known { (why : Reply) → known self.old command.now ≡ Some why → (result ≡ why) × (self.new ≡ self.old) × (disk.new ≡ disk.old) × (vault.new ≡ vault.old) }
+        ensures answer { known self.old command.now ≡ None → IsAnswer self.new command.now result }
+        ensures told { IsTrue D.told → known self.old command.now ≡ None → IsToldIn self.old.shape (contents (D.state disk.new).block) command.now result }
+        ensures commit_contents { IsTrue D.told → says_stop result ≡ false → (t : TxnId) → command.now ≡ Command.Commit t → KeepsAllButLog self.old.shape (D.state disk.old).block (D.state disk.new).block }
+        ensures put_memory { (t : TxnId) (key : Key) (value : List ℕ) → command.now ≡ Command.Put t key value → IsAtHand self.old key.0 → (disk.new ≡ disk.old) × (vault.new ≡ vault.old) }
+        ensures step { IsTrue D.told → says_stop result ≡ false → (m : Machine) → IsShown self.old (D.state disk.old).block m → Step m command.now result (IsShown self.new (D.state disk.new).block) }
+    {
+        self.law_of_clusters();
+        if let Err(why) = self.check(command) {
+            return why;
+        }
+        match *command {
+            Command::Start(_) => reply_of(self.start(disk, vault)),
+            Command::Begin(t) => reply_of(self.begin(disk, vault, t)),
+            Command::Get(t, key) => reply_found(self.get(disk, vault, t, key)),
+            Command::Put(t, key, value) => reply_of(self.put(disk, vault, t, key, value)),
+            Command::Commit(t) => reply_of(self.commit(disk, vault, t)),
+            Command::Format(_)
+            | Command::Bad
+            | Command::Append(..)
+            | Command::Del(..)
+            | Command::Abort(_)
+            | Command::Flush(_)
+            | Command::Dump(_)
+            | Command::Stat(_) => unreachable!(),
+        }
+    }
+}

@@ -1,0 +1,60 @@
+-- One more reply is counted.
+use Rattle.std.proofs.Common.{◌≡◌, ◌⊎◌, ◌==◌, ◌+◌, ◌≤◌, ◌∙◌, ℕ, Bool, true, false, List, [], ◌∷◌, ◌++◌, cond, inl, inr, refl, sym, subst, arith}
+use Rattle.std.specs.List.{count_by}
+use Rattle.std.proofs.lemmas.Bool.Decides.{nat_tests}
+use Rattle.std.proofs.lemmas.List.Sums.{fold_push}
+use Rattle.sd_base.specs.Disk.{Rose}
+use Rattle.sd_base.specs.Faults.{Grew}
+use Rattle.script_text.specs.declared.reply.Reply.{Reply}
+use Rattle.script_text.specs.declared.reply.Reply.TheVariants as says
+use Rattle.shared_store.specs.Causes.{AreCounted, HasCause, RoseBy, is_fault_of, is_stop_of}
+use Rattle.shared_store.specs.Devices.{Devices}
+
+-- two counts that have risen by so much, after they rose no further, and after one of them did
+rose_same : (times d v dm vm dn vn : ℕ) → RoseBy times d v dm vm → dm ≤ dn → vm ≤ vn → RoseBy (times + 0) d v dn vn
+rose_same times d v dm vm dn vn before disk vault low high = omega (arith, before (omega arith) (omega arith))
+
+rose_once : (times d v dm vm dn vn : ℕ) → RoseBy times d v dm vm → dm ≤ dn → vm ≤ vn → Rose dm dn ⊎ Rose vm vn → RoseBy (times + 1) d v dn vn
+rose_once times d v dm vm dn vn before disk vault (inl rose) low high = omega (arith, before (omega arith) (omega arith))
+rose_once times d v dm vm dn vn before disk vault (inr rose) low high = omega (arith, before (omega arith) (omega arith))
+
+-- so much does a reply count that names a node, where it comes for node 1 alone
+rose_more : (n node : ℕ) (times : ℕ) (d v dm vm dn vn : ℕ → ℕ) → RoseBy times (d n) (v n) (dm n) (vm n) → dm n ≤ dn n → vm n ≤ vn n → node ≡ 1 → Rose (dm 1) (dn 1) ⊎ Rose (vm 1) (vn 1) → RoseBy (times + cond (node == n) 1 0) (d n) (v n) (dn n) (vn n)
+rose_more n node times d v dm vm dn vn before disk vault one rose = by (node == n) refl
+  where
+    by : (b : Bool) → (node == n) ≡ b → RoseBy (times + cond b 1 0) (d n) (v n) (dn n) (vn n)
+    by false other = rose_same times (d n) (v n) (dm n) (vm n) (dn n) (vn n) before disk vault
+    by true same =
+        let e : node ≡ n = grind (arith, nat_tests) in
+        let P : ℕ → Type 0 = λ k. Rose (dm k) (dn k) ⊎ Rose (vm k) (vn k) in
+        rose_once times (d n) (v n) (dm n) (vm n) (dn n) (vn n) before disk vault (subst P (sym one ∙ e) rose)
+
+stops_more : (n : ℕ) (reply : Reply) (replies : List Reply) (a b c : Devices) → AreCounted replies a b → Grew b.disk c.disk → Grew b.vault c.vault → HasCause reply b c
+    → RoseBy (count_by (is_stop_of n) replies + cond (is_stop_of n reply) 1 0) (a.disk.cuts n) (a.vault.cuts n) (c.disk.cuts n) (c.vault.cuts n)
+stops_more n (says.Stopped node) replies a b c counted disk vault cause =
+    rose_more n node.0 (count_by (is_stop_of n) replies) a.disk.cuts a.vault.cuts b.disk.cuts b.vault.cuts c.disk.cuts c.vault.cuts (counted.stops n) (disk.cuts n) (vault.cuts n) cause.0 cause.1
+stops_more n reply replies a b c counted disk vault cause =
+    rose_same (count_by (is_stop_of n) replies) (a.disk.cuts n) (a.vault.cuts n) (b.disk.cuts n) (b.vault.cuts n) (c.disk.cuts n) (c.vault.cuts n) (counted.stops n) (disk.cuts n) (vault.cuts n)
+
+faults_more : (n : ℕ) (reply : Reply) (replies : List Reply) (a b c : Devices) → AreCounted replies a b → Grew b.disk c.disk → Grew b.vault c.vault → HasCause reply b c
+    → RoseBy (count_by (is_fault_of n) replies + cond (is_fault_of n reply) 1 0) (a.disk.faults n) (a.vault.faults n) (c.disk.faults n) (c.vault.faults n)
+faults_more n (says.Fault node) replies a b c counted disk vault cause =
+    rose_more n node.0 (count_by (is_fault_of n) replies) a.disk.faults a.vault.faults b.disk.faults b.vault.faults c.disk.faults c.vault.faults (counted.faults n) (disk.faults n) (vault.faults n) cause.0 cause.1
+faults_more n reply replies a b c counted disk vault cause =
+    rose_same (count_by (is_fault_of n) replies) (a.disk.faults n) (a.vault.faults n) (b.disk.faults n) (b.vault.faults n) (c.disk.faults n) (c.vault.faults n) (counted.faults n) (disk.faults n) (vault.faults n)
+
+pub AreCounted-more : (reply : Reply) (replies : List Reply) (a b c : Devices) → AreCounted replies a b → Grew b.disk c.disk → Grew b.vault c.vault → HasCause reply b c → AreCounted (replies ++ reply ∷ []) a c
+AreCounted-more reply replies a b c counted disk vault cause = record {
+  stops = λ n. rw (fold_push (λ k r. k + cond (is_stop_of n r) 1 0) 0 replies reply) (stops_more n reply replies a b c counted disk vault cause);
+  faults = λ n. rw (fold_push (λ k r. k + cond (is_fault_of n r) 1 0) 0 replies reply) (faults_more n reply replies a b c counted disk vault cause);
+}
+
+pub AreCounted-none : (a : Devices) → AreCounted [] a a
+AreCounted-none a = record { stops = λ n low high. omega arith; faults = λ n low high. omega arith }
+
+-- no count has fallen since
+pub AreCounted-after : (replies : List Reply) (a b c : Devices) → AreCounted replies a b → Grew b.disk c.disk → Grew b.vault c.vault → AreCounted replies a c
+AreCounted-after replies a b c counted disk vault = record {
+  stops = λ n low high. omega (arith, counted.stops n (omega (arith, disk.cuts n)) (omega (arith, vault.cuts n)), disk.cuts n, vault.cuts n);
+  faults = λ n low high. omega (arith, counted.faults n (omega (arith, disk.faults n)) (omega (arith, vault.faults n)), disk.faults n, vault.faults n);
+}

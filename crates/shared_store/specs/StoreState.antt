@@ -1,0 +1,109 @@
+-- What the store is to its user, and what each line may be answered.
+use Rattle.std.specs.Prelude.{◌≡◌, ◌≢◌, ◌≤◌, ◌<◌, ⊤, ℕ, Bool, true, false, List, [], ◌∷◌}
+use Rattle.sd_base.specs.Shape.{disk_need}
+use Rattle.sd_base.specs.declared.shape.Shape.{Shape}
+use Rattle.script_text.specs.Command.{Means}
+use Rattle.script_text.specs.declared.command.Command.{Command}
+use Rattle.script_text.specs.declared.command.Command.TheVariants as asks
+use Rattle.script_text.specs.declared.reply.Reply.{Reply}
+use Rattle.script_text.specs.declared.reply.Reply.TheVariants as says
+use Rattle.record_machine.specs.Commands.{Step}
+use Rattle.record_machine.specs.Machine.{Machine, formatted}
+use Rattle.cluster_core.specs.Places.{vault_need}
+use Rattle.cluster_core.specs.Ports.{says_stop}
+
+-- What is known of block 0 of the disk while no store is open: it is a disk super, or none, or nobody can say.
+pub data Seal : Type 0 where
+  Sealed : Seal
+  Blank : Seal
+  Unsure : Seal
+
+-- The state: no store is open; or one is, and is this machine; or one is of which nothing is known, since its node stopped.
+pub data StoreState : Type 0 where
+  shut : Seal → StoreState
+  opened : Machine → StoreState
+  stopped : StoreState
+
+-- ---- no store is open. The two numbers are the blocks that the disk and the vault have
+
+-- what a `format` may be answered
+abbrev pub AnswersFormat : ℕ → ℕ → Seal → Shape → Reply → Type 0
+AnswersFormat disk vault seal s says.Fine = (seal ≢ Sealed) × (disk_need s ≤ disk) × (vault_need s ≤ vault)
+AnswersFormat disk vault seal s says.Formatted = (seal ≢ Blank) × (0 < disk)
+AnswersFormat disk vault seal s (says.SmallDisk need have) = (seal ≢ Sealed) × (disk < disk_need s) × (need ≡ disk_need s) × (have ≡ disk)
+AnswersFormat disk vault seal s (says.SmallVault need have) = (seal ≢ Sealed) × (disk_need s ≤ disk) × (vault < vault_need s) × (need ≡ vault_need s) × (have ≡ vault)
+AnswersFormat disk vault seal s says.NoMem = (seal ≢ Sealed) × (disk_need s ≤ disk) × (vault_need s ≤ vault)
+AnswersFormat disk vault seal s (says.Stopped n) = n.0 ≡ 1
+AnswersFormat disk vault seal s (says.Fault n) = n.0 ≡ 1
+AnswersFormat disk vault seal s reply = ⊥
+
+-- what is known of block 0 after a `format` in which the node stopped
+abbrev pub after_cut : Seal → Seal
+after_cut Sealed = Sealed
+after_cut Blank = Unsure
+after_cut Unsure = Unsure
+
+-- the state after a `format`
+abbrev pub after_format : Seal → Shape → Reply → StoreState
+after_format seal s says.Fine = opened (formatted s)
+after_format seal s says.Formatted = shut Sealed
+after_format seal s (says.Stopped n) = shut (after_cut seal)
+after_format seal s (says.Fault n) = shut (after_cut seal)
+after_format seal s reply = shut Blank
+
+-- what a command may be answered. A line of a form that the store doesn't know yet is bad
+abbrev pub AnswersShut : ℕ → ℕ → Seal → Command → Reply → Type 0
+AnswersShut disk vault seal (asks.Format s) reply = AnswersFormat disk vault seal s reply
+AnswersShut disk vault seal (asks.Start n) reply = reply ≡ says.Closed
+AnswersShut disk vault seal (asks.Begin t) reply = reply ≡ says.Closed
+AnswersShut disk vault seal (asks.Get t key) reply = reply ≡ says.Closed
+AnswersShut disk vault seal (asks.Put t key value) reply = reply ≡ says.Closed
+AnswersShut disk vault seal (asks.Commit t) reply = reply ≡ says.Closed
+AnswersShut disk vault seal command reply = reply ≡ says.Bad
+
+-- and the state after it
+abbrev pub after_shut : Seal → Command → Reply → StoreState
+after_shut seal (asks.Format s) reply = after_format seal s reply
+after_shut seal command reply = shut seal
+
+-- ---- a store is open
+
+-- the commands in which the node may stop: those that may call a device
+abbrev pub MayStop : Command → Type 0
+MayStop (asks.Start n) = ⊤
+MayStop (asks.Begin t) = ⊤
+MayStop (asks.Get t key) = ⊤
+MayStop (asks.Put t key value) = ⊤
+MayStop (asks.Commit t) = ⊤
+MayStop command = ⊥
+
+-- what a command may be answered, with the states after it: where the node didn't stop, what the machine answers
+abbrev pub AnswersOpen : Bool → Machine → Command → Reply → (StoreState → Type 0) → Type 0
+AnswersOpen true m command reply S = MayStop command × S stopped
+AnswersOpen false m command reply S = Step m command reply (λ next. S (opened next))
+
+-- once the node has stopped, the lines that ask it for nothing are answered as before, and nothing is said of the others
+abbrev pub AnswersStopped : Command → Reply → Type 0
+AnswersStopped (asks.Format s) reply = reply ≡ says.Formatted
+AnswersStopped (asks.Start n) reply = ⊤
+AnswersStopped (asks.Begin t) reply = ⊤
+AnswersStopped (asks.Get t key) reply = ⊤
+AnswersStopped (asks.Put t key value) reply = ⊤
+AnswersStopped (asks.Commit t) reply = ⊤
+AnswersStopped command reply = reply ≡ says.Bad
+
+-- ---- a run
+
+-- from this state the command may be answered so, and the store go on to a state of S
+abbrev pub Answered : ℕ → ℕ → StoreState → Command → Reply → (StoreState → Type 0) → Type 0
+Answered disk vault (shut seal) command reply S = AnswersShut disk vault seal command reply × S (after_shut seal command reply)
+Answered disk vault (opened m) command reply S = AnswersOpen (says_stop reply) m command reply S
+Answered disk vault stopped command reply S = AnswersStopped command reply × S stopped
+
+-- from this state the lines may be answered with these replies, one after another, and the store end in a state of S
+abbrev pub Run : ℕ → ℕ → StoreState → List (List ℕ) → List Reply → (StoreState → Type 0) → Type 0
+Run disk vault state [] [] S = S state
+Run disk vault state (line ∷ lines) (reply ∷ replies) S =
+    (command : Command) × Means line command × Answered disk vault state command reply (λ next. Run disk vault next lines replies S)
+Run disk vault state [] (reply ∷ replies) S = ⊥
+Run disk vault state (line ∷ lines) [] S = ⊥
