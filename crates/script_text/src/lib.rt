@@ -5,9 +5,6 @@
 //! where it spells none (`read_line`), and that the line of a reply is exactly its text
 //! (`write_reply`). It stands on `sd_base` for the names of nodes, transactions, keys and pages.
 //! No function takes memory. The rules are in docs/COMMANDS.md.
-//!
-//! What reads and writes the parts of a line (`cut`, `read_number`, `read_value`, `put_text`,
-//! `put_number`, `put_spelled`) serves the store's first three forms too.
 #![tactic(auto)]
 
 mod command;
