@@ -1,9 +1,15 @@
 -- What a command answers when it isn't done.
-use Rattle.std.specs.Prelude.{◌≡◌, ◌≢◌, ◌⊎◌, ◌+◌, ◌-◌, ◌^◌, ◌%◌, ◌∷◌, [], ℕ, Bool, true, false, nat_le, nat_lt, not, List, Option, Some, None, Result, Ok, Err, IfErr, IfNone, IfOk, IfSome, if◌then◌else◌, refl}
+use Rattle.std.specs.Prelude.{◌≡◌, ◌≢◌, ◌⊎◌, ◌+◌, ◌-◌, ◌^◌, ◌%◌, ◌≤◌, ◌∷◌, [], ℕ, Bool, true, false, nat_le, nat_lt, not, List, Option, Some, None, Result, Ok, Err, IfErr, IfNone, IfOk, IfSome, length, if◌then◌else◌, refl}
 use Rattle.std.specs.List.{position}
 use Rattle.std.proofs.Common.{arith, inl, inr, ap, subst, sym, ◌∙◌}
 use Rattle.std.proofs.lemmas.Bool.Decides.{nat_tests}
-use Rattle.sd_base.specs.Disk.{BlockState, IsLawful}
+use Rattle.sd_base.specs.Disk.{BlockState, DiskState, IsLawful}
+use Rattle.sd_base.specs.declared.names.TxnId.{TxnId}
+use Rattle.record_locks.specs.Answer.{lock_answer}
+use Rattle.record_locks.specs.declared.mode.LockAnswer.{LockAnswer}
+use Rattle.record_locks.specs.declared.mode.LockAnswer.TheVariants as locks
+use Rattle.record_locks.specs.declared.mode.Mode.{Mode}
+use Rattle.record_locks.specs.declared.mode.Mode.TheVariants as modes
 use Rattle.sd_base.specs.Calls.{Narrows}
 use Rattle.sd_base.specs.Faults.{StaysLive}
 use Rattle.sd_base.specs.Shape.{first_page}
@@ -27,20 +33,23 @@ use Rattle.node_cache.proofs.Arriving.{none_is}
 use Rattle.node_cache.proofs.Leaving.{all_left}
 use Rattle.node_cache.proofs.PageWrites.{one_place}
 use Rattle.node_cache.proofs.RoomLaws.{same_content}
+use Rattle.script_text.specs.declared.command.Command.{Command}
 use Rattle.script_text.specs.declared.command.Command.TheVariants as asks
 use Rattle.script_text.specs.declared.reply.Reply.{Reply}
 use Rattle.script_text.specs.declared.reply.Reply.TheVariants as says
-use Rattle.record_machine.specs.Commands.{first_of, where_so}
+use Rattle.record_machine.specs.Commands.{TellsFlush, first_of, joined, lock_refusal, where_so}
+use Rattle.txn_core.specs.declared.change.Change.{Change}
+use Rattle.txn_core.specs.declared.change.Change.TheVariants.{Put, Append, Delete}
 use Rattle.cluster_core.specs.declared.node.Node.{Node}
 use Rattle.cluster_core.specs.declared.node.Node.TheVariants.{Down, Idle, Up}
-use Rattle.cluster_core.specs.Answering.{reply_found, reply_of}
-use Rattle.cluster_core.specs.Causes.{IsFaultFor, IsFaultOfPage, IsPageFor, HasNoPage, IsFoundIn, IsPutReason, IsRefusal, IsToldOfPages}
-use Rattle.cluster_core.specs.Changes.{ShowsData, ShowsMap, new_place, place_or}
+use Rattle.cluster_core.specs.Answering.{reply_deleted, reply_flushed, reply_found, reply_of}
+use Rattle.cluster_core.specs.Causes.{IsFaultFor, IsFaultOfPage, IsPageFor, HasNoPage, IsFoundIn, IsToldOfPages, IsWriteReason, IsWriteRefusal}
+use Rattle.cluster_core.specs.Changes.{ShowsData, ShowsMap, length_refusal, new_place, place_or}
 use Rattle.cluster_core.specs.Cluster.{ClusterState}
 use Rattle.cluster_core.specs.FaultReply.{IsToldDamaged}
-use Rattle.cluster_core.specs.Known.{checked, is_idle, known, no_room, room_in}
+use Rattle.cluster_core.specs.Known.{busy, checked, has_txn, is_idle, known, no_lock, no_node, no_room, no_txn, not_idle, not_up, room_in, state_of}
 use Rattle.cluster_core.specs.Places.{map_number}
-use Rattle.cluster_core.specs.Ports.{reply_to, says_stop}
+use Rattle.cluster_core.specs.Ports.{HasCause, is_up, reply_to, says_stop}
 
 -- ---- a page that couldn't be taken
 
@@ -100,38 +109,51 @@ stop_fault s key why stops = cc
 -- ---- a refusal
 
 -- it is told of no block
-pub refusal_told : (s : Shape) (image : ℕ → Option (List ℕ)) (c : ClusterState) (key : Key) (why : Reply) → IsRefusal c key why → IsToldOfPages s image why
-refusal_told s image c key (says.LostPage x) refused = absurd refused
-refusal_told s image c key (says.DamagedDisk at) refused = absurd refused
-refusal_told s image c key why refused = tt
+pub refusal_told : (s : Shape) (image : ℕ → Option (List ℕ)) (c : ClusterState) (key : Key) (what : Change) (why : Reply) → IsWriteRefusal c key what why → IsToldOfPages s image why
+refusal_told s image c key what (says.LostPage x) refused = absurd refused
+refusal_told s image c key what (says.DamagedDisk at) refused = absurd refused
+refusal_told s image c key what why refused = tt
 
--- why a cached data page isn't written
-pub write_refused : (c : ClusterState) (key : Key) (x : PageNo) (v : PageView) (need : ℕ) (why : Reply) → IsPageFor c.shape key x → ShowsData c x v → (need ≡ 2) ⊎ ((need ≡ 3) × HasNoPage c key)
-    → checked (first_of (where_so (nat_le (2 ^ 63) v.ident) (says.Limit x) ∷ no_room c need ∷ [])) ≡ Err why → IsRefusal c key why
-write_refused c key x v need why page shows needs is = by (nat_le (2 ^ 63) v.ident) (nat_lt (room_in c.node) need) refl refl is
+-- why a record of a cached data page isn't changed
+pub write_refused : (c : ClusterState) (key : Key) (what : Change) (x : PageNo) (v : PageView) (need : ℕ) (why : Reply) → IsPageFor c.shape key x → ShowsData c x v → (need ≡ 2) ⊎ ((need ≡ 3) × HasNoPage c key)
+    → checked (first_of (where_so (nat_le (2 ^ 63) v.ident) (says.Limit x) ∷ length_refusal what (content v (key.0 % 16)) ∷ no_room c need ∷ [])) ≡ Err why → IsWriteRefusal c key what why
+write_refused c key what x v need why page shows needs is = by (nat_le (2 ^ 63) v.ident) (length_refusal what (content v (key.0 % 16))) (nat_lt (room_in c.node) need) refl refl refl is
   where
-    by : (a b : Bool) → nat_le (2 ^ 63) v.ident ≡ a → nat_lt (room_in c.node) need ≡ b → checked (first_of (where_so a (says.Limit x) ∷ where_so b (says.LogFull need (room_in c.node)) ∷ [])) ≡ Err why → IsRefusal c key why
-    by true b high small is = let same : says.Limit x ≡ why = cc in subst (IsRefusal c key) same (page, inr (v, shows, grind (arith, nat_tests, high)))
-    by false true high small is = let same : says.LogFull need (room_in c.node) ≡ why = cc in subst (IsRefusal c key) same (needs, refl, grind (arith, nat_tests, small))
-    by false false high small is = cc
+    too_long : (how : Change) (other : Reply) → length_refusal how (content v (key.0 % 16)) ≡ Some other → IsWriteRefusal c key how other
+    too_long (Put value) other is = cc
+    too_long (Append bytes) other is = by_test (nat_lt 248 (length (joined (content v (key.0 % 16)) bytes))) refl is
+      where
+        len : ℕ
+        len = length (joined (content v (key.0 % 16)) bytes)
+
+        by_test : (t : Bool) → nat_lt 248 len ≡ t → where_so t (says.TooLong len) ≡ Some other → IsWriteRefusal c key (Append bytes) other
+        by_test true long so = let same : says.TooLong len ≡ other = cc in subst (IsWriteRefusal c key (Append bytes)) same (x, page, v, shows, rw long refl)
+        by_test false long so = cc
+    too_long Delete other is = cc
+
+    by : (a : Bool) (o : Option Reply) (b : Bool) → nat_le (2 ^ 63) v.ident ≡ a → length_refusal what (content v (key.0 % 16)) ≡ o → nat_lt (room_in c.node) need ≡ b → checked (first_of (where_so a (says.Limit x) ∷ o ∷ where_so b (says.LogFull need (room_in c.node)) ∷ [])) ≡ Err why → IsWriteRefusal c key what why
+    by true o b high long small is = let same : says.Limit x ≡ why = cc in subst (IsWriteRefusal c key what) same (page, inr (v, shows, grind (arith, nat_tests, high)))
+    by false (Some other) b high long small is = let same : other ≡ why = cc in subst (IsWriteRefusal c key what) same (too_long what other long)
+    by false None true high long small is = let same : says.LogFull need (room_in c.node) ≡ why = cc in subst (IsWriteRefusal c key what) same (needs, refl, grind (arith, nat_tests, small))
+    by false None false high long small is = cc
 
 -- why a group gets no place of its map page
-pub place_refused : (c : ClusterState) (key : Key) (map : PageNo) (image : MapImage) (why : Reply) → map.0 ≡ map_number c.shape key.0 → ShowsMap c map image → HasNoPage c key → new_place map image ≡ Err why → IsRefusal c key why
-place_refused c key map image why at shows page is = by (nat_le (2 ^ 63) image.ident) (position is_free image.entries) refl refl is
+pub place_refused : (c : ClusterState) (key : Key) (what : Change) (map : PageNo) (image : MapImage) (why : Reply) → map.0 ≡ map_number c.shape key.0 → ShowsMap c map image → HasNoPage c key → new_place map image ≡ Err why → IsWriteRefusal c key what why
+place_refused c key what map image why at shows page is = by (nat_le (2 ^ 63) image.ident) (position is_free image.entries) refl refl is
   where
-    by : (b : Bool) (o : Option ℕ) → nat_le (2 ^ 63) image.ident ≡ b → position is_free image.entries ≡ o → (if b then Err (says.Limit map) else place_or (says.NoSpace map) o) ≡ Err why → IsRefusal c key why
-    by true o high none is = let same : says.Limit map ≡ why = cc in subst (IsRefusal c key) same (inl at, inl (image, shows, grind (arith, nat_tests, high)))
-    by false None high none is = let same : says.NoSpace map ≡ why = cc in subst (IsRefusal c key) same (at, (image, shows, none), page)
+    by : (b : Bool) (o : Option ℕ) → nat_le (2 ^ 63) image.ident ≡ b → position is_free image.entries ≡ o → (if b then Err (says.Limit map) else place_or (says.NoSpace map) o) ≡ Err why → IsWriteRefusal c key what why
+    by true o high none is = let same : says.Limit map ≡ why = cc in subst (IsWriteRefusal c key what) same (inl at, inl (image, shows, grind (arith, nat_tests, high)))
+    by false None high none is = let same : says.NoSpace map ≡ why = cc in subst (IsWriteRefusal c key what) same (at, (image, shows, none), page)
     by false (Some place) high none is = cc
 
--- it and a stop are what a write is in the way of whose page is cached
-pub put_reason : (c : ClusterState) (key : Key) (why : Reply) → (says_stop why ≡ true) ⊎ IsRefusal c key why → IsPutReason c key why
-put_reason c key why (inl stops) = inr (stop_fault c.shape key why stops)
-put_reason c key why (inr refused) = inl refused
+-- it and a stop are what is in the way of a write whose page is cached
+pub write_reason : (c : ClusterState) (key : Key) (what : Change) (why : Reply) → (says_stop why ≡ true) ⊎ IsWriteRefusal c key what why → IsWriteReason c key what why
+write_reason c key what why (inl stops) = inr (stop_fault c.shape key why stops)
+write_reason c key what why (inr refused) = inl refused
 
-pub put_told : (s : Shape) (image : ℕ → Option (List ℕ)) (c : ClusterState) (key : Key) (why : Reply) → (says_stop why ≡ true) ⊎ IsRefusal c key why → IsToldOfPages s image why
-put_told s image c key why (inl stops) = stop_told s image why stops
-put_told s image c key why (inr refused) = refusal_told s image c key why refused
+pub write_told : (s : Shape) (image : ℕ → Option (List ℕ)) (c : ClusterState) (key : Key) (what : Change) (why : Reply) → (says_stop why ≡ true) ⊎ IsWriteRefusal c key what why → IsToldOfPages s image why
+write_told s image c key what why (inl stops) = stop_told s image why stops
+write_told s image c key what why (inr refused) = refusal_told s image c key what why refused
 
 -- ---- what is answered
 
@@ -160,6 +182,30 @@ told_found s image (Ok None) why = tt
 told_found s image (Ok (Some value)) why = tt
 told_found s image (Err reply) why = why
 
+-- to one that deletes a record, and to one that writes the changed pages
+pub deleted_or : (P : Reply → Type 0) (Q : Type 0) (r : Result Bool Reply) → (r ≡ Ok false → Q) → IfErr r P → (reply_deleted r ≡ says.Fine) ⊎ ((reply_deleted r ≡ says.Absent) × Q) ⊎ P (reply_deleted r)
+deleted_or P Q (Ok true) absent why = inl refl
+deleted_or P Q (Ok false) absent why = inr (inl (refl, absent refl))
+deleted_or P Q (Err reply) absent why = inr (inr why)
+
+pub flushed_or : (r : Result ℕ Reply) → IfOk r (λ count. count ≤ 16) → IfErr r (λ why. says_stop why ≡ true) → TellsFlush (reply_flushed r) ⊎ (says_stop (reply_flushed r) ≡ true)
+flushed_or (Ok count) few stops = inl (count, few, refl)
+flushed_or (Err reply) few stops = inr stops
+
+pub told_deleted : (s : Shape) (image : ℕ → Option (List ℕ)) (r : Result Bool Reply) → IfErr r (IsToldOfPages s image) → IsToldOfPages s image (reply_deleted r)
+told_deleted s image (Ok true) why = tt
+told_deleted s image (Ok false) why = tt
+told_deleted s image (Err reply) why = why
+
+pub told_flushed : (s : Shape) (image : ℕ → Option (List ℕ)) (r : Result ℕ Reply) → IfErr r (λ why. says_stop why ≡ true) → IsToldOfPages s image (reply_flushed r)
+told_flushed s image (Ok count) stops = tt
+told_flushed s image (Err reply) stops = stop_told s image reply stops
+
+pub told_state : (s : Shape) (image : ℕ → Option (List ℕ)) (node : Node) → IsToldOfPages s image (state_of node)
+told_state s image Idle = tt
+told_state s image (Up d seats) = tt
+told_state s image Down = tt
+
 -- what is told of a block of the log, where the blocks hold what they did then
 pub damaged_then : (g : Region) (old new : ℕ → Option (List ℕ)) (why : Reply) → ((k : ℕ) → new k ≡ old k) → IsToldDamaged g old why → IsToldDamaged g new why
 damaged_then g old new (says.DamagedDisk at) same told = subst (λ o. (o ≡ None) ⊎ ((at.0 ≡ g.anchor) × IsNoAnchor g o) ⊎ ((number : ℕ) × (at.0 ≡ place g number) × ¬ (IsLegal g number o))) (sym (same at.0)) told
@@ -179,3 +225,56 @@ idle_before c n none = by c.node (nat_lt c.shape.nodes n.0) none
     by (Up d seats) false none = cc
     by Down true none = cc
     by Down false none = cc
+
+-- ---- what is refused for what is in memory
+
+-- what holds of each test's refusal holds of the first one
+first_then : (P : Reply → Type 0) (o : Option Reply) (os : List (Option Reply)) → IfSome o P → IfSome (first_of os) P → IfSome (first_of (o ∷ os)) P
+first_then P None os here rest = rest
+first_then P (Some why) os here rest = here
+
+where_then : (P : Reply → Type 0) (b : Bool) (why : Reply) → P why → IfSome (where_so b why) P
+where_then P true why here = here
+where_then P false why here = tt
+
+-- it needs no cause at the devices: none of these replies is a stop
+module _ (d d' : DiskState) (c : ClusterState) where
+  abbrev Caused : Reply → Type 0
+  Caused why = HasCause why d d'
+
+  lock_then : (a : LockAnswer) → IfSome (lock_refusal a) Caused
+  lock_then locks.Free = tt
+  lock_then locks.Mine = tt
+  lock_then (locks.Conflict u) = tt
+  lock_then locks.Full = tt
+
+  node_then : (n : NodeId) (os : List (Option Reply)) → IfSome (first_of os) Caused → IfSome (first_of (no_node c n ∷ os)) Caused
+  node_then n os rest = first_then Caused (no_node c n) os (where_then Caused (nat_lt c.shape.nodes n.0) (says.NoNode n) tt) rest
+
+  up_then : (n : NodeId) (os : List (Option Reply)) → IfSome (first_of os) Caused → IfSome (first_of (no_node c n ∷ not_up c n ∷ os)) Caused
+  up_then n os rest = node_then n (not_up c n ∷ os) (first_then Caused (not_up c n) os (where_then Caused (not (is_up c.node)) (says.NotUp n) tt) rest)
+
+  access_then : (t : TxnId) (key : Key) (mode : Mode) → IfSome (first_of (no_node c t.node ∷ not_up c t.node ∷ no_txn c t ∷ no_lock c key t mode ∷ [])) Caused
+  access_then t key mode =
+      up_then t.node (no_txn c t ∷ no_lock c key t mode ∷ [])
+      (first_then Caused (no_txn c t) (no_lock c key t mode ∷ []) (where_then Caused (not (has_txn c.node t)) (says.NotTxn t) tt) (first_then Caused (no_lock c key t mode) [] (lock_then (lock_answer c.locks key t mode)) tt))
+
+  known_then : (command : Command) → IfSome (known c command) Caused
+  known_then (asks.Format s) = tt
+  known_then (asks.Start n) = node_then n (not_idle c n ∷ []) (first_then Caused (not_idle c n) [] (where_then Caused (not (is_idle c.node)) (says.NotIdle n) tt) tt)
+  known_then (asks.Begin t) =
+      up_then t.node (busy c t ∷ no_room c 2 ∷ [])
+      (first_then Caused (busy c t) (no_room c 2 ∷ []) (where_then Caused (has_txn c.node t) (says.Busy t) tt) (first_then Caused (no_room c 2) [] (where_then Caused (nat_lt (room_in c.node) 2) (says.LogFull 2 (room_in c.node)) tt) tt))
+  known_then (asks.Get t key) = access_then t key modes.Read
+  known_then (asks.Put t key value) = access_then t key modes.Write
+  known_then (asks.Append t key bytes) = access_then t key modes.Write
+  known_then (asks.Del t key) = access_then t key modes.Write
+  known_then (asks.Commit t) = up_then t.node (no_txn c t ∷ []) (first_then Caused (no_txn c t) [] (where_then Caused (not (has_txn c.node t)) (says.NotTxn t) tt) tt)
+  known_then (asks.Flush n) = up_then n [] tt
+  known_then (asks.Stat n) = where_then Caused (nat_lt c.shape.nodes n.0) (says.NoNode n) tt
+  known_then asks.Bad = tt
+  known_then (asks.Abort t) = tt
+  known_then (asks.Dump n) = tt
+
+  pub known_cause : (command : Command) (why : Reply) → known c command ≡ Some why → HasCause why d d'
+  known_cause command why is = subst (λ o. IfSome o Caused) is (known_then command)

@@ -1,8 +1,11 @@
 -- Which blocks a step of a node leaves as they are.
-use Rattle.std.specs.Prelude.{◌≡◌, ◌≢◌, ◌+◌, ◌/◌, ◌%◌, ◌<◌, ℕ, Bool, true, List, Option, Some, None, Ok, IfSome, option_map, refl}
+use Rattle.std.specs.Prelude.{◌≡◌, ◌≢◌, ◌+◌, ◌-◌, ◌/◌, ◌%◌, ◌<◌, [], ℕ, Bool, true, List, Option, Some, None, Ok, All, IfSome, option_map, refl}
 use Rattle.std.specs.List.{position}
-use Rattle.std.proofs.Common.{arith, ap, subst, sym, ◌∙◌}
+use Rattle.std.proofs.Common.{arith, inl, inr, ap, subst, sym, ◌∙◌}
+use Rattle.std.proofs.lemmas.List.Elements.{All-nil}
 use Rattle.sd_base.specs.Disk.{BlockState}
+use Rattle.sd_base.specs.Calls.{Narrows}
+use Rattle.sd_base.specs.Shape.{page_count}
 use Rattle.sd_base.specs.declared.device.NodeId.{NodeId}
 use Rattle.sd_base.specs.declared.names.PageNo.{PageNo}
 use Rattle.sd_base.specs.declared.shape.Shape.{Shape}
@@ -10,20 +13,21 @@ use Rattle.space_map.specs.Entry.{is_free}
 use Rattle.space_map.specs.Image.{MapImage}
 use Rattle.page_owner.specs.declared.owners.Own.{Own}
 use Rattle.private_log.specs.Content.{place, region_of}
-use Rattle.private_log.specs.Frames.{KeepsContents}
-use Rattle.private_log.specs.Log.{next_place}
+use Rattle.private_log.specs.Frames.{KeepsContents, NarrowsBeside}
+use Rattle.private_log.specs.Log.{next_place, region, tail_place}
 use Rattle.record_locks.specs.Held.{Held}
-use Rattle.node_cache.specs.Cache.{CacheState, IsOfStore, IsTiedToLog}
+use Rattle.node_cache.specs.Cache.{CachedPage, CacheState, IsOfStore, IsTiedToLog}
+use Rattle.node_cache.specs.Writes.{NarrowsButPages}
 use Rattle.txn_core.specs.Seats.{SeatsState}
 use Rattle.cluster_core.specs.declared.node.Node.{Node}
 use Rattle.cluster_core.specs.declared.node.Node.TheVariants.{Down, Idle, Up}
 use Rattle.cluster_core.specs.Changes.{ShowsMap, UsesPlace, new_place}
 use Rattle.cluster_core.specs.Cluster.{ClusterState}
-use Rattle.cluster_core.specs.Footprint.{CanWriteAt, FillsNoBlock, HasPlace, KeepsAllButLog}
+use Rattle.cluster_core.specs.Footprint.{CanWriteAt, FillsNoBlock, HasPlace, KeepsAllButLog, NarrowsBesides}
 use Rattle.cluster_core.specs.Places.{map_number}
 use Rattle.cluster_core.specs.Ports.{OnUp, is_up}
 use Rattle.cluster_core.proofs.Fetching.{is_one}
-use Rattle.cluster_core.proofs.PutTests.{place_found}
+use Rattle.cluster_core.proofs.WriteTests.{place_found}
 
 -- ---- the log
 
@@ -53,15 +57,46 @@ fills_behind c d up kept room = by c.node d.node up kept room
     by (Up k seats) Down up kept room = tt
     by Down o up kept room = cc
 
--- the block into which the next record goes is one of the ring of the log
-pub log_alone : (s : Shape) (c : CacheState) (b b' : ℕ → BlockState) → s.nodes ≡ 1 → IsOfStore s c → IsTiedToLog c → KeepsContents (next_place c.log) b b' → KeepsAllButLog s b b'
-log_alone s c b b' nodes store tie keeps = λ k beside. keeps k (λ here. beside (c.log.tail / 6) (here ∙ same))
-  where
-    number : c.log.node.0 ≡ 1
-    number = ap (λ (n : NodeId). n.0) tie.node ∙ is_one s c nodes store
+-- the ring of the log is that of node 1
+ring_of : (s : Shape) (c : CacheState) (number : ℕ) → s.nodes ≡ 1 → IsOfStore s c → IsTiedToLog c → place (region c.log) number ≡ place (region_of s 1) number
+ring_of s c number nodes store tie = ap (λ t. place (region_of t c.log.node.0) number) store.shape ∙ ap (λ n. place (region_of s n) number) (ap (λ (n : NodeId). n.0) tie.node ∙ is_one s c nodes store)
 
-    same : place (region_of c.log.shape c.log.node.0) (c.log.tail / 6) ≡ place (region_of s 1) (c.log.tail / 6)
-    same = ap (λ t. place (region_of t c.log.node.0) (c.log.tail / 6)) store.shape ∙ ap (λ n. place (region_of s n) (c.log.tail / 6)) number
+-- the block into which the next record goes is one of it
+pub log_alone : (s : Shape) (c : CacheState) (b b' : ℕ → BlockState) → s.nodes ≡ 1 → IsOfStore s c → IsTiedToLog c → KeepsContents (next_place c.log) b b' → KeepsAllButLog s b b'
+log_alone s c b b' nodes store tie keeps = λ k beside. keeps k (λ here. beside (c.log.tail / 6) (here ∙ ring_of s c (c.log.tail / 6) nodes store tie))
+
+-- ---- the outcomes of the blocks that are neither pages of the store nor of the ring
+
+-- to log a record adds none
+pub log_besides : (s : Shape) (c : CacheState) (a b : ℕ → BlockState) → s.nodes ≡ 1 → IsOfStore s c → IsTiedToLog c → NarrowsBeside (next_place c.log) a b → NarrowsBesides s a b
+log_besides s c a b nodes store tie narrows k o page ring may = elim (narrows k o may) [
+  | inl old ↦ old
+  | inr here ↦ absurd (ring (c.log.tail / 6) (here ∙ ring_of s c (c.log.tail / 6) nodes store tie))
+]
+
+-- nor does it to write the last block of the log, and pages of the store
+pub pages_besides : (s : Shape) (c : CacheState) (pool : List (Option (List ℕ))) (pages : List CachedPage) (a b : ℕ → BlockState) → s.nodes ≡ 1 → IsOfStore s c → IsTiedToLog c → All (λ p. p.ticket.page.0 < page_count s) pages
+    → NarrowsButPages s c.log pool pages a b → NarrowsBesides s a b
+pages_besides s c pool pages a b nodes store tie within narrows k o page ring may = elim (narrows k o may) [
+  | inl old ↦ old
+  | inr (inl last) ↦ absurd (ring ((c.log.tail - 1) / 6) (last ∙ ring_of s c ((c.log.tail - 1) / 6) nodes store tie))
+  | inr (inr written) ↦
+      let q = written.1 in
+      let low : q.ticket.page.0 < page_count s = subst (λ (r : CachedPage). r.ticket.page.0 < page_count s) written.3 (within written.0 q written.2) in
+      absurd (page q.ticket.page low written.4.0.1)
+]
+
+-- and none where the last block of the log alone was written
+pub tail_besides : (s : Shape) (c : CacheState) (a b : ℕ → BlockState) → s.nodes ≡ 1 → IsOfStore s c → IsTiedToLog c → NarrowsBeside (tail_place c.log) a b → NarrowsBesides s a b
+tail_besides s c a b nodes store tie narrows = pages_besides s c [] [] a b nodes store tie (All-nil (λ p. p.ticket.page.0 < page_count s)) (λ k o may. elim (narrows k o may) [ inl old ↦ inl old | inr here ↦ inr (inl here) ])
+
+-- nor does such a call with one behind it that adds none to any block
+pub besides_still : (s : Shape) (a b c : ℕ → BlockState) → NarrowsBesides s a b → Narrows b c → NarrowsBesides s a c
+besides_still s a b c first narrows k o page ring may = first k o page ring (narrows k o may)
+
+-- nor do two such calls
+pub besides_then : (s t : Shape) (a b c : ℕ → BlockState) → t ≡ s → NarrowsBesides s a b → NarrowsBesides t b c → NarrowsBesides s a c
+besides_then s t a b c same first next k o page ring may = first k o page ring (subst (λ u. NarrowsBesides u b c) same next k o page ring may)
 
 -- ---- the cluster
 

@@ -1,5 +1,5 @@
 -- What a node has in memory is what the machine says of it.
-use Rattle.std.specs.Prelude.{◌≡◌, ◌==◌, ◌||◌, ◌+◌, ◌-◌, ◌*◌, ◌^◌, ◌<◌, ◌∷◌, [], ℕ, suc, Bool, true, false, List, Option, Some, None, All, IfSome, filter, is_none, is_some, length, map, min, nat_lt, reverse, slice_index_or, refl}
+use Rattle.std.specs.Prelude.{◌≡◌, ◌==◌, ◌||◌, ◌+◌, ◌-◌, ◌*◌, ◌^◌, ◌<◌, ◌≤◌, ◌∷◌, [], ℕ, suc, Bool, true, false, List, Option, Some, None, All, IfSome, filter, is_none, is_some, length, map, min, nat_lt, reverse, slice_index_or, refl}
 use Rattle.std.specs.List.{list_any, sum_by}
 use Rattle.std.proofs.Common.{arith, ap, subst, sym, ◌∙◌}
 use Rattle.std.proofs.lemmas.Bool.Decides.{nat_tests}
@@ -15,8 +15,9 @@ use Rattle.private_log.specs.Log.{space}
 use Rattle.compensation.specs.Finding.{record_at}
 use Rattle.compensation.specs.Left.{uncompensated}
 use Rattle.node_cache.specs.Cache.{CacheState}
-use Rattle.txn_core.specs.Seats.{OpenTxn, SeatsState, owed, owed_in, txn_in}
+use Rattle.txn_core.specs.Seats.{AreTied, OpenTxn, SeatsState, owed, owed_in, txn_in}
 use Rattle.txn_core.specs.Told.{IsOpenIn}
+use Rattle.record_machine.specs.Machine as machine
 use Rattle.record_machine.specs.Machine.{Deed, Machine, Write, is_begin_in, is_busy, room}
 use Rattle.record_machine.specs.Meaning.{AreLogged, AreLogs, Plain, Tells, after}
 use Rattle.cluster_core.specs.Shows.{ShowsUp, deeds_in, numbers_of}
@@ -156,3 +157,13 @@ module _ (s : Shape) (pool : List (Option (List ℕ))) (c : CacheState) (seats :
       ∙ ap (λ n. min (6 * c.log.shape.ring - (n - 6 * m.start 1)) (6 * 2 ^ 56 - n) - length (m.pending 1)) (tail_shown s pool c seats b p m logs up)
       ∙ ap (λ n. min (6 * c.log.shape.ring - (c.log.tail - 6 * n)) (6 * 2 ^ 56 - c.log.tail) - length (m.pending 1)) up.start
       ∙ ap (λ n. space c.log - n) (sym (owed_shown eight up))
+
+  -- no more than its log may have
+  pub owes_few : c.log.shape ≡ s → m.shape ≡ s → s.nodes ≡ 1 → AreTied seats c → length seats.seats ≡ 8 → ShowsUp s pool 1 c seats b p m → (n : ℕ) → 1 ≤ n → n ≤ m.shape.nodes → machine.owed m n ≤ 6 * m.shape.ring
+  owes_few store shape alone tie eight up n low high =
+      let nodes = ap (λ t. t.nodes) shape in
+      let first : n ≡ 1 = omega (arith, low, high, nodes, alone) in
+      let owing = owed_shown eight up in
+      let room = tie.room in
+      let ring : c.log.shape.ring ≡ m.shape.ring = ap (λ t. t.ring) (store ∙ sym shape) in
+      subst (λ k. machine.owed m k ≤ 6 * m.shape.ring) (sym first) (omega (arith, owing, room, ring))

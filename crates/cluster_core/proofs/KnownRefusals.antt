@@ -1,6 +1,6 @@
 -- What a command is refused for by what is in memory, the machine refuses it for too.
-use Rattle.std.specs.Prelude.{◌≡◌, ◌⊎◌, ◌∷◌, [], ◌≤◌, ℕ, Bool, true, false, not, nat_lt, List, Option, refl}
-use Rattle.std.proofs.Common.{arith, inl, inr, ap, sym, ◌∙◌}
+use Rattle.std.specs.Prelude.{◌≡◌, ◌⊎◌, ◌∷◌, [], ◌-◌, ◌*◌, ◌≤◌, ℕ, Bool, true, false, not, nat_lt, List, Option, refl}
+use Rattle.std.proofs.Common.{arith, inl, inr, ap, subst, sym, ◌∙◌}
 use Rattle.std.proofs.lemmas.Bool.{cases_eq}
 use Rattle.std.proofs.lemmas.Bool.Decides.{nat_tests}
 use Rattle.sd_base.specs.Disk.{BlockState}
@@ -14,10 +14,10 @@ use Rattle.script_text.specs.Words.{IsNode, IsTxn}
 use Rattle.script_text.specs.declared.command.Command.TheVariants as asks
 use Rattle.script_text.specs.declared.reply.Reply.{Reply}
 use Rattle.script_text.specs.declared.reply.Reply.TheVariants as says
-use Rattle.record_machine.specs.Machine.{Machine, NodeMode, room}
+use Rattle.record_machine.specs.Machine.{Machine, NodeMode, owed, room, used}
 use Rattle.record_machine.specs.Machine as machine
 use Rattle.record_machine.specs.Meaning.{Plain}
-use Rattle.record_machine.specs.Commands.{first_of, lock_refusal, where_so}
+use Rattle.record_machine.specs.Commands.{TellsNode, first_of, lock_refusal, where_so}
 use Rattle.record_machine.specs.Commands as wants
 use Rattle.cluster_core.specs.declared.node.Node.{Node}
 use Rattle.cluster_core.specs.declared.node.Node.TheVariants.{Idle, Up, Down}
@@ -26,7 +26,9 @@ use Rattle.cluster_core.specs.Known as known
 use Rattle.cluster_core.specs.Known.{has_txn, is_idle, room_in}
 use Rattle.cluster_core.specs.Ports.{is_up}
 use Rattle.cluster_core.specs.Shows.{ShowsNode, ShowsStore}
-use Rattle.cluster_core.proofs.InMemory.{busy_shown, room_shown}
+use Rattle.txn_core.specs.Seats as txn
+use Rattle.cluster_core.proofs.InMemory.{busy_shown, owed_shown, room_shown}
+use Rattle.cluster_core.proofs.ShownLogged.{tail_shown}
 
 -- what the machine says that the node is
 up_mode : (c : ClusterState) (b : ℕ → BlockState) (p : Plain) (m : Machine) → ShowsStore c b p m → wants.is_up (m.mode 1) ≡ is_up c.node
@@ -129,8 +131,28 @@ module _ (c : ClusterState) (b : ℕ → BlockState) (p : Plain) (m : Machine) (
   pub known_commit : (t : TxnId) → IsTxn t → wants.refusal m (asks.Commit t) ≡ known.known c (asks.Commit t)
   known_commit t range = txn_first t [] [] range (λ one up. refl)
 
-  -- a write is refused for its page behind all that
-  pub known_put : (t : TxnId) (key : Key) (value : List ℕ) → IsTxn t
-      → wants.refusal m (asks.Put t key value) ≡ first_of (known.no_node c t.node ∷ known.not_up c t.node ∷ known.no_txn c t ∷ known.no_lock c key t locks.Write ∷ wants.no_page m t.node key.0 ∷ [])
-  known_put t key value range = txn_first t (wants.no_lock m key t locks.Write ∷ wants.no_page m t.node key.0 ∷ []) (known.no_lock c key t locks.Write ∷ wants.no_page m t.node key.0 ∷ []) range
-      (λ one up. ap (λ o. first_of (o ∷ wants.no_page m t.node key.0 ∷ [])) (locked_same key t locks.Write))
+  -- a change of a record is refused for the last reason behind all that
+  pub known_change : (t : TxnId) (key : Key) (last : Option Reply) → IsTxn t
+      → first_of (wants.no_node m t.node ∷ wants.not_up m t.node ∷ wants.no_txn m t ∷ wants.no_lock m key t locks.Write ∷ last ∷ []) ≡ first_of (known.no_node c t.node ∷ known.not_up c t.node ∷ known.no_txn c t ∷ known.no_lock c key t locks.Write ∷ last ∷ [])
+  known_change t key last range = txn_first t (wants.no_lock m key t locks.Write ∷ last ∷ []) (known.no_lock c key t locks.Write ∷ last ∷ []) range (λ one up. ap (λ o. first_of (o ∷ last ∷ [])) (locked_same key t locks.Write))
+
+  pub known_flush : (n : NodeId) → IsNode n → wants.refusal m (asks.Flush n) ≡ known.known c (asks.Flush n)
+  known_flush n range = up_first n [] [] range (λ one up. refl)
+
+  pub known_stat : (n : NodeId) → wants.refusal m (asks.Stat n) ≡ known.known c (asks.Stat n)
+  known_stat n = ap (λ k. where_so (nat_lt k n.0) (says.NoNode n)) nodes
+
+  -- what is told of the node is what the machine tells of it
+  pub told_node : (n : ℕ) → n ≡ 1 → TellsNode m n (known.state_of c.node)
+  told_node n one = subst (λ k. TellsNode m k (known.state_of c.node)) (sym one) (by c.node is.is shown.node)
+    where
+      by : (node : Node) → IsNodeOf c.shape c.pool c.owners node → ShowsNode c.shape c.pool node b p m → TellsNode m 1 (known.state_of node)
+      by Idle work node = rw (node.0) refl
+      by (Up d seats) work node =
+          let up = node.1 in
+          let tail = tail_shown c.shape c.pool d seats b p m shown.means.logs up in
+          let length : used m 1 ≡ d.log.tail - 6 * d.log.start = ap (λ k. k - 6 * m.start 1) tail ∙ ap (λ k. d.log.tail - 6 * k) up.start in
+          let owing : txn.owed seats ≡ owed m 1 = owed_shown c.shape c.pool d seats b p m work.eight up in
+          let free : room m 1 ≡ room_in (Up d seats) = room_shown c.shape c.pool d seats b p m work.store.shape shown.shape work.eight shown.means.logs up in
+          rw (node.0) (ap (λ k. says.StatUp k (txn.owed seats) (room_in (Up d seats))) (sym length) ∙ ap (λ k. says.StatUp (used m 1) k (room_in (Up d seats))) owing ∙ ap (says.StatUp (used m 1) (owed m 1)) (sym free))
+      by Down work node = rw node refl

@@ -1,5 +1,5 @@
 -- What a cluster shows after a page was fetched.
-use Rattle.std.specs.Prelude.{◌≡◌, ◌≢◌, ◌⊎◌, ◌*◌, ◌<◌, ◌≤◌, ◌∷◌, [], ℕ, zero, suc, Bool, true, false, List, Option, Some, None, All, AllPairs, Any, IfSome, is_some, nat_lt, option_and_then, option_map, map, slice_index_or, if◌then◌else◌, refl}
+use Rattle.std.specs.Prelude.{◌≡◌, ◌≢◌, ◌⊎◌, ◌*◌, ◌<◌, ◌≤◌, ◌∷◌, [], ℕ, zero, suc, Bool, true, false, List, Option, Some, None, All, AllPairs, IfSome, is_some, nat_lt, option_and_then, option_map, map, slice_index_or, if◌then◌else◌, refl}
 use Rattle.std.specs.List.{find, remove, slice_get}
 use Rattle.std.specs.Option.{option_or}
 use Rattle.std.proofs.Common.{arith, inl, inr, ap, subst, sym, ◌∙◌}
@@ -24,7 +24,7 @@ use Rattle.state_ids.specs.PageImage.{PageImage, data_page, in_life, map_page, p
 use Rattle.state_ids.specs.Held.{Shows}
 use Rattle.state_ids.specs.Blocks.{HoldsPage, IsOfKind, page_place}
 use Rattle.node_cache.specs.Cache.{AreOut, CachedPage, CacheState, Changes, IsCache, IsOfStore, IsTiedToLog, first_change, is_cached, is_changed, is_page, page_at}
-use Rattle.node_cache.specs.Writes.{HoldsPages, IsImageOf, NarrowsButPages}
+use Rattle.node_cache.specs.Writes.{HoldsPages, NarrowsButPages}
 use Rattle.node_cache.specs.Room.{Arrived, IsEntryOf, freed, leaving, map_of, place_in_map, staying}
 use Rattle.node_cache.proofs.Arriving.{found_last, none_is, not_found}
 use Rattle.node_cache.proofs.DiskTie.{not_in_ring}
@@ -32,7 +32,7 @@ use Rattle.node_cache.proofs.Leaving.{all_left, all_stay, who_leaves}
 use Rattle.node_cache.proofs.OnePage.{found, head_pairs, is_page-other, is_page-same, tail_pairs}
 use Rattle.node_cache.proofs.PageWrites.{one_place}
 use Rattle.node_cache.proofs.Without.{others_apart, shows_same}
-use Rattle.private_log.specs.Log.{IsLogOn, SameLog, tail_place}
+use Rattle.private_log.specs.Log.{IsLogOn, SameLog}
 use Rattle.txn_core.proofs.CompensationLaws.{find_all}
 use Rattle.txn_core.specs.Seats.{SeatsState, txn_in}
 use Rattle.txn_core.specs.Told.{AreTold}
@@ -161,29 +161,40 @@ from_frame s p y pool frame o living within shown here =
     let is = living y within in
     (image_in s p y, (shown.bytes, here ∙ shown.held, shown.text, is.0, is.1), is.2)
 
+-- a page on the disk stays so, where the last block of the log was written, and pages with what their frames show
+pub still_stored : (s : Shape) (p : Plain) (y : PageNo) (c : CacheState) (pages : List CachedPage) (pool : List (Option (List ℕ))) (b b' : ℕ → BlockState) → IsOfStore s c → IsTiedToLog c → AreLiving s p → y.0 < page_count s → All (λ q. Shows pool q.frame (image_in s p q.ticket.page)) pages
+    → NarrowsButPages s c.log pool pages b b' → IsOnDisk s b p y → IsOnDisk s b' p y
+still_stored s p y c pages pool b b' store tie living within shown narrows was o may = elim (narrows (page_place s y) o may) [
+  | inl old ↦ was o old
+  | inr new ↦ elim new [
+    | inl log ↦ absurd (not_in_ring s c store tie _ y log)
+    | inr written ↦
+        let q = written.1 in
+        let page : y ≡ q.ticket.page = one_place s y q.ticket.page written.4.0.1 in
+        let shows : Shows pool q.frame (image_in s p q.ticket.page) = subst (λ r. Shows pool r.frame (image_in s p r.ticket.page)) written.3 (shown written.0 q written.2) in
+        from_frame s p y pool q.frame o living within (subst (λ z. Shows pool q.frame (image_in s p z)) (sym page) shows) written.4.1
+  ]
+]
+
+-- and a page whose block holds what its frame shows is on it
+pub written_stored : (s : Shape) (p : Plain) (y : PageNo) (q : CachedPage) (pool : List (Option (List ℕ))) (b : ℕ → BlockState) → AreLiving s p → y.0 < page_count s → q.ticket.page ≡ y → Shows pool q.frame (image_in s p q.ticket.page) → Holds b (page_place s q.ticket.page) (frame_at pool q.frame) → IsOnDisk s b p y
+written_stored s p y q pool b living within page shows held o may =
+    let here : o ≡ frame_at pool q.frame = held o (subst (λ z. MayHold b (page_place s z) o) (sym page) may) in
+    from_frame s p y pool q.frame o living within (subst (λ z. Shows pool q.frame (image_in s p z)) page shows) here
+
 pub stored_fetched : (s : Shape) (p : Plain) (x : PageNo) (e : Option MapEntry) (c d : CacheState) (pool mid new : List (Option (List ℕ))) (b b' : ℕ → BlockState) → IsCache c.node c.pages → IsOfStore s c → IsTiedToLog c → AreLiving s p
     → All (λ q. Shows pool q.frame (image_in s p q.ticket.page)) c.pages → Arrived s x e (staying s x c.pages) mid d new → NarrowsButPages s c.log pool (leaving s x c.pages) b b' → HoldsPages s pool (leaving s x c.pages) b'
     → ((y : PageNo) → y.0 < page_count s → is_changed y c ≡ false → IsOnDisk s b p y) → (y : PageNo) → y.0 < page_count s → is_changed y d ≡ false → IsOnDisk s b' p y
 stored_fetched s p x e c d pool mid new b b' is store tie living shown came narrows holds was y within not = elim (changed_after s x y e c d mid new is came not) [
-  | inl clean ↦ λ o may. by (narrows (page_place s y) o may) clean
-  | inr gone ↦ λ o may.
-      let q = gone.0 in
-      let held : Holds b' (page_place s q.ticket.page) (frame_at pool q.frame) = subst (λ ps. HoldsPages s pool ps b') gone.1 holds 0 q (omega arith) gone.3 in
-      let here : o ≡ frame_at pool q.frame = held o (subst (λ z. MayHold b' (page_place s z) o) (sym gone.2) may) in
-      from_frame s p y pool q.frame o living within (subst (λ z. Shows pool q.frame (image_in s p z)) gone.2 (first (subst (All (λ r. Shows pool r.frame (image_in s p r.ticket.page))) gone.1 (all_left (λ r. Shows pool r.frame (image_in s p r.ticket.page)) s x c.pages shown)))) here
+  | inl clean ↦ still_stored s p y c (leaving s x c.pages) pool b b' store tie living within gone_shown narrows (was y within clean)
+  | inr gone ↦ written_stored s p y gone.0 pool b' living within gone.2 (first (subst (All (λ r. Shows pool r.frame (image_in s p r.ticket.page))) gone.1 gone_shown)) (subst (λ ps. HoldsPages s pool ps b') gone.1 holds 0 gone.0 (omega arith) gone.3)
 ]
   where
+    gone_shown : All (λ r. Shows pool r.frame (image_in s p r.ticket.page)) (leaving s x c.pages)
+    gone_shown = all_left (λ r. Shows pool r.frame (image_in s p r.ticket.page)) s x c.pages shown
+
     first : {q : CachedPage} → All (λ r. Shows pool r.frame (image_in s p r.ticket.page)) (q ∷ []) → Shows pool q.frame (image_in s p q.ticket.page)
     first {q} all = all 0 q (omega arith)
-
-    by : {o : Option (List ℕ)} → MayHold b (page_place s y) o ⊎ (page_place s y ≡ tail_place c.log) ⊎ Any (IsImageOf s pool (page_place s y) o) (leaving s x c.pages) → is_changed y c ≡ false → (image : PageImage) × HoldsPage s y image o × (in_life (entry_in s p y) image ≡ image_in s p y)
-    by {o} (inl old) clean = was y within clean o old
-    by (inr (inl log)) clean = absurd (not_in_ring s c store tie _ y log)
-    by {o} (inr (inr written)) clean =
-        let q = written.1 in
-        let page : y ≡ q.ticket.page = one_place s y q.ticket.page written.4.0.1 in
-        let shows : Shows pool q.frame (image_in s p q.ticket.page) = subst (λ r. Shows pool r.frame (image_in s p r.ticket.page)) written.3 (all_left (λ r. Shows pool r.frame (image_in s p r.ticket.page)) s x c.pages shown written.0 q written.2) in
-        from_frame s p y pool q.frame o living within (subst (λ z. Shows pool q.frame (image_in s p z)) (sym page) shows) written.4.1
 
 -- ---- all that a node that is up shows
 

@@ -1,5 +1,5 @@
 -- What a cluster shows after a transaction has changed a slot of a page.
-use Rattle.std.specs.Prelude.{◌≡◌, ◌≢◌, ◌+◌, ◌*◌, ◌%◌, ◌<◌, ◌≤◌, ◌++◌, ◌∷◌, [], ℕ, true, false, List, Option, Some, None, IsTrue, All, AllPairs, IfSome, is_some, length, map, reverse, slice_index_or, slice_set, take, refl}
+use Rattle.std.specs.Prelude.{◌≡◌, ◌≢◌, ◌+◌, ◌*◌, ◌%◌, ◌^◌, ◌<◌, ◌≤◌, ◌++◌, ◌∷◌, [], ℕ, true, false, List, Option, Some, None, IsTrue, All, AllPairs, IfSome, is_some, length, map, reverse, slice_index_or, slice_set, take, refl}
 use Rattle.std.proofs.Common.{arith, inl, inr, ap, subst, sym, ◌∙◌}
 use Rattle.std.proofs.lemmas.Bool.{cases_eq}
 use Rattle.std.proofs.lemmas.List.{get_or-set_other, get_or-set_same, length-append, map-append, reverse-append, take_all}
@@ -29,10 +29,11 @@ use Rattle.txn_core.specs.Seats.{AreApart, OpenTxn, SeatsState, txn_in}
 use Rattle.txn_core.specs.Told.{AreTold, HasRecords}
 use Rattle.txn_core.specs.Updates.{FitsSlotOf, HasPage, op_of, update_of}
 use Rattle.txn_core.proofs.UpdateLaws.{apart_at, update_other, update_own}
-use Rattle.record_machine.specs.Machine.{Deed, Machine, Write, home, put, seen}
+use Rattle.record_machine.specs.Machine.{Deed, Machine, Write, home, owed, put, seen}
 use Rattle.record_machine.specs.Meaning.{AreLogs, IsChangedAt, Means, Plain, Tells, logged, with_page}
 use Rattle.record_machine.specs.Parts.{Change as Changed, one}
 use Rattle.record_machine.proofs.LockSteps.{seen_locked}
+use Rattle.record_machine.proofs.Homes.{home_is_data}
 use Rattle.record_machine.proofs.Steps.{means_changed}
 use Rattle.cluster_core.specs.Changes.{value_after}
 use Rattle.cluster_core.specs.Cluster.{IsAtWork}
@@ -69,9 +70,9 @@ update_tells u v slot Delete w page place is = (page, place, refl, sym is)
 
 -- what a store means, where the page of the key's group has its new value
 pub means_updated : (p : Plain) (m : Machine) (t : TxnId) (w : Write) (u : OpenTxn) (x : PageNo) (slot : ℕ) (what : Change) → t.node.0 ≡ 1 → home m w.key ≡ Some w.page → w.page ≡ x.0 → w.key % 16 ≡ slot → mode_of m.locks (record { 0 = w.key }) t ≡ Some locks.Write
-    → w.value ≡ value_after what (seen m t w.key) → (p.pages x.0).page ≡ x → slot < length (p.pages x.0).slots → FitsSlotOf (p.pages x.0) slot what → Means p m
+    → w.value ≡ value_after what (seen m t w.key) → (p.pages x.0).page ≡ x → (p.pages x.0).ident < 2 ^ 63 → ((n : ℕ) → 1 ≤ n → n ≤ m.shape.nodes → owed m n ≤ 6 * m.shape.ring) → slot < length (p.pages x.0).slots → FitsSlotOf (p.pages x.0) slot what → Means p m
     → Means (logged 1 (update_of u (p.pages x.0) slot what) (with_page x.0 (applied (op_of slot what) (p.pages x.0)) p)) (one (Changed t w) m)
-means_updated p m t w u x slot what one_node here page place lock value number low fits means =
+means_updated p m t w u x slot what one_node here page place lock value number before owes low fits means =
     let v : PageView = p.pages x.0 in
     let rec : LogRecord = update_of u v slot what in
     let new : PageView = applied (op_of slot what) v in
@@ -79,9 +80,11 @@ means_updated p m t w u x slot what one_node here page place lock value number l
     subst (λ k. content v k ≡ seen m t w.key) place (subst (λ y. content (p.pages y) (w.key % 16) ≡ seen m t w.key) page (seen_locked p m (record { 0 = w.key }) w.page t locks.Write means.locked means.pages here lock)) in
     let is : w.value ≡ value_after what (content v slot) = value ∙ ap (value_after what) (sym sees) in
     let tells : Tells rec w (seen m t w.key) = subst (Tells rec w) sees (update_tells u v slot what w (ap (λ (y : PageNo). y.0) number ∙ sym page) (sym place) is) in
+    let range = home_is_data p m w.key w.page means.pages here in
+    let ident : m.ident w.page < 2 ^ 63 = subst (λ n. n < 2 ^ 63) (means.pages.ident w.page range.0 range.1) (subst (λ y. (p.pages y).ident < 2 ^ 63) (sym page) before) in
     let changed : IsChangedAt (w.key % 16) w.value (p.pages w.page) new =
     subst (λ y. IsChangedAt (w.key % 16) w.value (p.pages y) new) (sym page) (subst (λ k. IsChangedAt k w.value v new) (sym place) (subst (λ o. IsChangedAt slot o v new) (sym is) (slot_changed v slot what low fits))) in
-    subst (λ n. Means (logged n rec (with_page x.0 new p)) (one (Changed t w) m)) one_node (subst (λ y. Means (logged t.node.0 rec (with_page y new p)) (one (Changed t w) m)) page (means_changed p m t w rec new here lock tells changed means))
+    subst (λ n. Means (logged n rec (with_page x.0 new p)) (one (Changed t w) m)) one_node (subst (λ y. Means (logged t.node.0 rec (with_page y new p)) (one (Changed t w) m)) page (means_changed p m t w rec new here lock tells changed ident owes means))
 
 -- ---- the deeds of the seats
 

@@ -1,5 +1,5 @@
 -- Why a command on a record gives another answer than that it is done, whatever its devices hold.
-use Rattle.std.specs.Prelude.{◌≡◌, ◌≢◌, ◌⊎◌, ◌^◌, ◌%◌, ◌≤◌, ◌<◌, ⊤, ℕ, true, List, Option, None, Ok}
+use Rattle.std.specs.Prelude.{◌≡◌, ◌≢◌, ◌⊎◌, ◌^◌, ◌%◌, ◌≤◌, ◌<◌, ⊤, ℕ, true, List, Option, Some, None, Ok}
 use Rattle.std.specs.List.{position}
 use Rattle.sd_base.specs.declared.names.Key.{Key}
 use Rattle.sd_base.specs.declared.names.PageNo.{PageNo}
@@ -15,12 +15,15 @@ use Rattle.script_text.specs.declared.command.Command.{Command}
 use Rattle.script_text.specs.declared.command.Command.TheVariants as asks
 use Rattle.script_text.specs.declared.reply.Reply.{Reply}
 use Rattle.script_text.specs.declared.reply.Reply.TheVariants as says
+use Rattle.txn_core.specs.declared.change.Change.{Change}
+use Rattle.txn_core.specs.declared.change.Change.TheVariants.{Put, Append, Delete}
+use Rattle.record_machine.specs.Commands.{TellsFlush}
 use Rattle.record_machine.specs.Machine.{group_of}
 use Rattle.cluster_core.specs.Answering.{reply_found}
-use Rattle.cluster_core.specs.Changes.{ShowsData, ShowsMap}
+use Rattle.cluster_core.specs.Changes.{ShowsData, ShowsMap, length_refusal}
 use Rattle.cluster_core.specs.Cluster.{ClusterState}
 use Rattle.cluster_core.specs.FaultReply.{IsLogReply, IsToldDamaged}
-use Rattle.cluster_core.specs.Known.{room_in}
+use Rattle.cluster_core.specs.Known.{room_in, state_of}
 use Rattle.cluster_core.specs.Places.{map_number, page_number}
 use Rattle.cluster_core.specs.Ports.{says_stop}
 
@@ -63,17 +66,18 @@ HasNoPage c key = (image : MapImage) × ShowsMap c (record { 0 = map_number c.sh
 abbrev pub HasNoPlace : ClusterState → PageNo → Type 0
 HasNoPlace c x = (image : MapImage) × ShowsMap c x image × (position is_free image.entries ≡ None)
 
--- A write of the key is refused for what the node has in memory as the command leaves it. The log is to have room for
--- the write and the end of its transaction, and where the group has no page for that too.
-abbrev pub IsRefusal : ClusterState → Key → Reply → Type 0
-IsRefusal c key (says.Limit x) = IsPageFor c.shape key x × IsAtLimit c x
-IsRefusal c key (says.NoSpace x) = (x.0 ≡ map_number c.shape key.0) × HasNoPlace c x × HasNoPage c key
-IsRefusal c key (says.LogFull need room) = ((need ≡ 2) ⊎ ((need ≡ 3) × HasNoPage c key)) × (room ≡ room_in c.node) × (room < need)
-IsRefusal c key reply = ⊥
+-- The change, of a record of the key, is refused for what the node has in memory as the command leaves it. The log is to
+-- have room for the write and the end of its transaction, and where the group has no page for that too.
+abbrev pub IsWriteRefusal : ClusterState → Key → Change → Reply → Type 0
+IsWriteRefusal c key what (says.Limit x) = IsPageFor c.shape key x × IsAtLimit c x
+IsWriteRefusal c key what (says.NoSpace x) = (x.0 ≡ map_number c.shape key.0) × HasNoPlace c x × HasNoPage c key
+IsWriteRefusal c key what (says.TooLong len) = (x : PageNo) × IsPageFor c.shape key x × (v : PageView) × ShowsData c x v × (length_refusal what (content v (key.0 % 16)) ≡ Some (says.TooLong len))
+IsWriteRefusal c key what (says.LogFull need room) = ((need ≡ 2) ⊎ ((need ≡ 3) × HasNoPage c key)) × (room ≡ room_in c.node) × (room < need)
+IsWriteRefusal c key what reply = ⊥
 
 -- it is refused, or a page that it needs couldn't be taken
-abbrev pub IsPutReason : ClusterState → Key → Reply → Type 0
-IsPutReason c key reply = IsRefusal c key reply ⊎ IsFaultFor c.shape key reply
+abbrev pub IsWriteReason : ClusterState → Key → Change → Reply → Type 0
+IsWriteReason c key what reply = IsWriteRefusal c key what reply ⊎ IsFaultFor c.shape key reply
 
 -- ---- what is found
 
@@ -89,8 +93,12 @@ abbrev pub IsAnswer : ClusterState → Command → Reply → Type 0
 IsAnswer c (asks.Start n) reply = (reply ≡ says.Fine) ⊎ IsLogReply (region_of c.shape 1) reply
 IsAnswer c (asks.Begin t) reply = (reply ≡ says.Fine) ⊎ (says_stop reply ≡ true)
 IsAnswer c (asks.Get t key) reply = ((found : Option (List ℕ)) × (reply ≡ reply_found (Ok found)) × IsFoundIn c key found) ⊎ IsFaultFor c.shape key reply
-IsAnswer c (asks.Put t key value) reply = (reply ≡ says.Fine) ⊎ IsPutReason c key reply
+IsAnswer c (asks.Put t key value) reply = (reply ≡ says.Fine) ⊎ IsWriteReason c key (Put value) reply
+IsAnswer c (asks.Append t key bytes) reply = (reply ≡ says.Fine) ⊎ IsWriteReason c key (Append bytes) reply
+IsAnswer c (asks.Del t key) reply = (reply ≡ says.Fine) ⊎ ((reply ≡ says.Absent) × IsFoundIn c key None) ⊎ IsWriteReason c key Delete reply
 IsAnswer c (asks.Commit t) reply = (reply ≡ says.Fine) ⊎ (says_stop reply ≡ true)
+IsAnswer c (asks.Flush n) reply = TellsFlush reply ⊎ (says_stop reply ≡ true)
+IsAnswer c (asks.Stat n) reply = reply ≡ state_of c.node
 IsAnswer c command reply = ⊥
 
 -- what the blocks hold of which the answer says that they are lost or damaged: those of the log, at a start, or of pages

@@ -1,6 +1,6 @@
 -- What a change leaves of what a node has in memory.
-use Rattle.std.specs.Prelude.{◌≡◌, ◌+◌, ◌^◌, ◌++◌, ◌≤◌, ℕ, nat_le, List, [], Option, Some, None, Result, Ok, Err, unwrap_or, if◌then◌else◌}
-use Rattle.std.specs.List.{position}
+use Rattle.std.specs.Prelude.{◌≡◌, ◌+◌, ◌^◌, ◌≤◌, ⊤, ℕ, true, nat_le, List, Option, Some, None, Result, Ok, Err, is_some, length, if◌then◌else◌}
+use Rattle.std.specs.List.{count_by, position}
 use Rattle.sd_base.specs.declared.names.PageNo.{PageNo}
 use Rattle.page_image.specs.declared.page_view.PageView.{PageView}
 use Rattle.space_map.specs.Entry.{is_free}
@@ -10,7 +10,8 @@ use Rattle.state_ids.specs.PageImage.{map_page}
 use Rattle.state_ids.specs.Held.{Shows}
 use Rattle.script_text.specs.declared.reply.Reply.{Reply}
 use Rattle.script_text.specs.declared.reply.Reply.TheVariants.{Limit, NoSpace}
-use Rattle.node_cache.specs.Cache.{CachedPage, CacheState, page_at}
+use Rattle.record_machine.specs.Commands.{joined, too_long}
+use Rattle.node_cache.specs.Cache.{CachedPage, CacheState, has_changes, page_at}
 use Rattle.txn_core.specs.Seats.{SeatsState}
 use Rattle.txn_core.specs.Updates.{HasPage}
 use Rattle.txn_core.specs.declared.change.Change.{Change}
@@ -21,8 +22,20 @@ use Rattle.txn_core.specs.declared.change.Change.TheVariants.{Put, Append, Delet
 -- the record after a change of this one
 abbrev pub value_after : Change → Option (List ℕ) → Option (List ℕ)
 value_after (Put value) v = Some value
-value_after (Append bytes) v = Some (unwrap_or v [] ++ bytes)
+value_after (Append bytes) v = Some (joined v bytes)
 value_after Delete v = None
+
+-- the change may be asked of this record: a value of its own isn't too long, and what is deleted is there
+abbrev pub Suits : Change → Option (List ℕ) → Type 0
+Suits (Put value) v = length value ≤ 248
+Suits (Append bytes) v = ⊤
+Suits Delete v = is_some v ≡ true
+
+-- the record would be too long after the change
+abbrev pub length_refusal : Change → Option (List ℕ) → Option Reply
+length_refusal (Put value) v = None
+length_refusal (Append bytes) v = too_long v bytes
+length_refusal Delete v = None
 
 -- the map page x is cached, with this in its frame
 pub record HasMap (pool : List (Option (List ℕ))) (pages : List CachedPage) (x : PageNo) (image : MapImage) : Type 0 where
@@ -54,3 +67,14 @@ place_or why (Some place) = Ok place
 
 abbrev pub new_place : PageNo → MapImage → Result ℕ Reply
 new_place map image = if nat_le (2 ^ 63) image.ident then Err (Limit map) else place_or (NoSpace map) (position is_free image.entries)
+
+-- the cache has the pages that it had, with the changes that it had made of them
+abbrev pub KeepsPages : CacheState → CacheState → Type 0
+KeepsPages c d = d.pages ≡ c.pages
+
+-- The pages that the cache had changed were written, and so many there were: it has changed none since, and all records
+-- of its log are stable.
+pub record WritesBack (c d : CacheState) (count : ℕ) : Type 0 where
+  pub number : count ≡ count_by has_changes c.pages
+  pub clean : count_by has_changes d.pages ≡ 0
+  pub stable : d.log.stable ≡ d.log.tail

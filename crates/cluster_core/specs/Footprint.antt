@@ -1,11 +1,14 @@
 -- Which blocks of the devices a command leaves as they are.
-use Rattle.std.specs.Prelude.{◌≡◌, ◌≢◌, ◌+◌, ◌%◌, ◌<◌, ℕ, None, IsTrue, IfSome}
+use Rattle.std.specs.Prelude.{◌≡◌, ◌≢◌, ◌+◌, ◌%◌, ◌<◌, ℕ, List, Option, None, IsTrue, IfSome}
 use Rattle.std.specs.List.{position}
-use Rattle.sd_base.specs.Disk.{BlockState}
+use Rattle.sd_base.specs.Disk.{BlockState, MayHold}
+use Rattle.sd_base.specs.Shape.{page_count}
+use Rattle.sd_base.specs.declared.names.PageNo.{PageNo}
 use Rattle.sd_base.specs.declared.shape.Shape.{Shape}
 use Rattle.space_map.specs.Entry.{is_free, is_used_by}
 use Rattle.space_map.specs.Image.{MapImage}
 use Rattle.private_log.specs.Content.{place, region_of}
+use Rattle.state_ids.specs.Blocks.{page_place}
 use Rattle.node_cache.specs.Cache.{is_cached}
 use Rattle.record_machine.specs.Machine.{group_of}
 use Rattle.cluster_core.specs.Changes.{ShowsMap}
@@ -16,6 +19,11 @@ use Rattle.cluster_core.specs.Ports.{OnUp}
 -- each block that isn't one of the ring of node 1's log has the content that it had
 abbrev pub KeepsAllButLog : Shape → (ℕ → BlockState) → (ℕ → BlockState) → Type 0
 KeepsAllButLog s old new = (k : ℕ) → ((number : ℕ) → k ≢ place (region_of s 1) number) → (new k).current ≡ (old k).current
+
+-- no block has a new outcome that is neither a page of the store nor of the ring of node 1's log
+abbrev pub NarrowsBesides : Shape → (ℕ → BlockState) → (ℕ → BlockState) → Type 0
+NarrowsBesides s old new =
+    (k : ℕ) (o : Option (List ℕ)) → ((x : PageNo) → x.0 < page_count s → k ≢ page_place s x) → ((number : ℕ) → k ≢ place (region_of s 1) number) → MayHold new k o → MayHold old k o
 
 -- so many more records fill no block of the log: the one into which the next record goes has room for more
 abbrev pub FillsNoBlock : ClusterState → ℕ → Type 0

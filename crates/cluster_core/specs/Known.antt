@@ -1,5 +1,5 @@
 -- What a command is refused for by what is in memory.
-use Rattle.std.specs.Prelude.{◌∷◌, [], ◌-◌, ℕ, Bool, true, false, not, nat_lt, Option, Some, None, Result, Ok, Err}
+use Rattle.std.specs.Prelude.{◌∷◌, [], ◌-◌, ◌*◌, ℕ, Bool, true, false, not, nat_lt, Option, Some, None, Result, Ok, Err}
 use Rattle.sd_base.specs.declared.device.NodeId.{NodeId}
 use Rattle.sd_base.specs.declared.names.Key.{Key}
 use Rattle.sd_base.specs.declared.names.TxnId.{TxnId}
@@ -74,9 +74,16 @@ known c (asks.Get t key) = first_of (no_node c t.node ∷ not_up c t.node ∷ no
 known c (asks.Put t key value) = first_of (no_node c t.node ∷ not_up c t.node ∷ no_txn c t ∷ no_lock c key t locks.Write ∷ [])
 known c (asks.Commit t) = first_of (no_node c t.node ∷ not_up c t.node ∷ no_txn c t ∷ [])
 known c asks.Bad = Some says.Bad
-known c (asks.Append t key value) = Some says.Bad
-known c (asks.Del t key) = Some says.Bad
+known c (asks.Append t key bytes) = first_of (no_node c t.node ∷ not_up c t.node ∷ no_txn c t ∷ no_lock c key t locks.Write ∷ [])
+known c (asks.Del t key) = first_of (no_node c t.node ∷ not_up c t.node ∷ no_txn c t ∷ no_lock c key t locks.Write ∷ [])
+known c (asks.Flush n) = first_of (no_node c n ∷ not_up c n ∷ [])
+known c (asks.Stat n) = no_node c n
 known c (asks.Abort t) = Some says.Bad
-known c (asks.Flush n) = Some says.Bad
 known c (asks.Dump n) = Some says.Bad
-known c (asks.Stat n) = Some says.Bad
+
+-- what is told of the node: of one that is up how many records its log has, how many its transactions may still need,
+-- and how many more there is room for
+abbrev pub state_of : Node → Reply
+state_of Idle = says.StatIdle
+state_of (Up c seats) = says.StatUp (c.log.tail - 6 * c.log.start) (owed seats) (room_in (Up c seats))
+state_of Down = says.StatDown

@@ -1,5 +1,5 @@
 ghost use Rattle.std.specs.Prelude.{◌≡◌, ◌≤◌, ◌<◌, ◌+◌, ◌^◌, ◌%◌, true, ℕ, None, Some, IsTrue, IsOk, IfErr, OnOk, slice_index_or};
-ghost use Rattle.sd_base.specs.Calls.{Keeps};
+ghost use Rattle.sd_base.specs.Calls.{Keeps, Narrows};
 ghost use Rattle.sd_base.specs.Shape.{page_count};
 ghost use Rattle.page_image.specs.declared.page_view.PageView.{PageView};
 ghost use Rattle.space_map.specs.declared.map_entry.MapEntry.TheVariants.{Free};
@@ -13,7 +13,7 @@ ghost use Rattle.record_locks.specs.Held.{mode_of};
 ghost use Rattle.record_machine.specs.Machine.{Machine, Write, free_place, group_of, home, map_of, seen};
 ghost use Rattle.record_machine.specs.Parts.{Change as Changed, Use, one};
 ghost use Rattle.cluster_core.specs.Changes.{HasMap, UsesPlace, value_after};
-ghost use Rattle.cluster_core.specs.Footprint.{FillsNoBlock};
+ghost use Rattle.cluster_core.specs.Footprint.{FillsNoBlock, NarrowsBesides};
 ghost use Rattle.cluster_core.specs.Ports.{HasCause, IsQuiet, IsServed, OnUp, is_up, says_stop};
 ghost use Rattle.cluster_core.specs.Shows.{IsShown};
 
@@ -51,6 +51,8 @@ impl Cluster {
         ensures quiet { IsTrue D.told → IsQuiet self.new (D.state disk.new).block }
         ensures keeps { Keeps 1 (D.state disk.old) (D.state disk.new) }
         ensures vault_keeps { Keeps 1 (V.state vault.old) (V.state vault.new) }
+        ensures besides { IsTrue D.told → NarrowsBesides self.old.shape (D.state disk.old).block (D.state disk.new).block }
+        ensures vault_outcomes { IsTrue V.told → Narrows (V.state vault.old).block (V.state vault.new).block }
         ensures cause { IfErr result (λ why. HasCause why (D.state disk.old) (D.state disk.new)) }
         ensures shape { self.new.shape ≡ self.old.shape }
         ensures up { OnOk result (is_up self.new.node ≡ true) }
@@ -102,6 +104,8 @@ impl Cluster {
         ensures quiet { IsTrue D.told → IsQuiet self.new (D.state disk.new).block }
         ensures keeps { Keeps 1 (D.state disk.old) (D.state disk.new) }
         ensures vault_keeps { Keeps 1 (V.state vault.old) (V.state vault.new) }
+        ensures besides { IsTrue D.told → NarrowsBesides self.old.shape (D.state disk.old).block (D.state disk.new).block }
+        ensures vault_outcomes { IsTrue V.told → Narrows (V.state vault.old).block (V.state vault.new).block }
         ensures cause { IfErr result (λ why. HasCause why (D.state disk.old) (D.state disk.new)) }
         ensures shape { self.new.shape ≡ self.old.shape }
         ensures up { OnOk result (is_up self.new.node ≡ true) }

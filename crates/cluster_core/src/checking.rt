@@ -1,7 +1,7 @@
 ghost use Rattle.std.specs.Prelude.{◌≡◌, ◌≤◌, ◌∷◌, [], OnErr, OnOk};
 ghost use Rattle.script_text.specs.Command.{InRange};
 ghost use Rattle.record_machine.specs.Commands.{first_of};
-ghost use Rattle.cluster_core.specs.Known.{busy, checked, has_txn, known, no_lock, no_node, no_room, no_txn, not_idle, not_up, room_in};
+ghost use Rattle.cluster_core.specs.Known.{busy, checked, has_txn, known, no_lock, no_node, no_room, no_txn, not_idle, not_up, room_in, state_of};
 
 use crate::cluster::Cluster;
 use crate::node::Node;
@@ -23,22 +23,14 @@ impl Cluster {
                 self.check_free(t)?;
                 self.check_room(2)
             }
-            Command::Get(t, key) => {
-                self.check_txn(t)?;
-                self.check_lock(key, t, Mode::Read)
-            }
-            Command::Put(t, key, _) => {
-                self.check_txn(t)?;
-                self.check_lock(key, t, Mode::Write)
+            Command::Get(t, key) => self.check_access(t, key, Mode::Read),
+            Command::Put(t, key, _) | Command::Append(t, key, _) | Command::Del(t, key) => {
+                self.check_access(t, key, Mode::Write)
             }
             Command::Commit(t) => self.check_txn(t),
-            Command::Bad
-            | Command::Append(..)
-            | Command::Del(..)
-            | Command::Abort(_)
-            | Command::Flush(_)
-            | Command::Dump(_)
-            | Command::Stat(_) => Err(Reply::Bad),
+            Command::Flush(n) => self.check_up(n),
+            Command::Stat(n) => self.check_node(n),
+            Command::Bad | Command::Abort(_) | Command::Dump(_) => Err(Reply::Bad),
         }
     }
 
@@ -119,6 +111,15 @@ impl Cluster {
         }
     }
 
+    /// The node is up and has the transaction, which may have the lock.
+    fn check_access(&self, t: TxnId, key: Key, mode: Mode) -> Result<(), Reply>
+        requires { t.seat ≤ 7 }
+        ensures { result ≡ checked (first_of (no_node self.now t.node ∷ not_up self.now t.node ∷ no_txn self.now t ∷ no_lock self.now key t mode ∷ [])) }
+    {
+        self.check_txn(t)?;
+        self.check_lock(key, t, mode)
+    }
+
     /// How many more records the log of the node has room for, besides those that its transactions may
     /// still need.
     fn room(&self) -> u64
@@ -127,6 +128,20 @@ impl Cluster {
         match &self.node {
             Node::Up(cache, seats) => cache.log().space() - seats.owed(),
             Node::Idle | Node::Down => 0,
+        }
+    }
+
+    /// What the node is and, where it is up, how full its log is.
+    pub(crate) fn stat(&self) -> Reply
+        ensures { result ≡ state_of self.now.node }
+    {
+        match &self.node {
+            Node::Idle => Reply::StatIdle,
+            Node::Up(cache, seats) => {
+                let log = cache.log();
+                Reply::StatUp(log.tail() - 6 * log.start(), seats.owed(), self.room())
+            }
+            Node::Down => Reply::StatDown,
         }
     }
 

@@ -1,20 +1,23 @@
 ghost use Rattle.std.specs.Prelude.{◌≡◌, true, false, ℕ, List, Some, None, IsTrue};
-ghost use Rattle.sd_base.specs.Calls.{Keeps};
+ghost use Rattle.sd_base.specs.Calls.{Keeps, Narrows};
 ghost use Rattle.script_text.specs.Command.{InRange};
 ghost use Rattle.script_text.specs.declared.reply.Reply.{Reply};
+ghost use Rattle.script_text.specs.declared.reply.Reply.TheVariants as says;
 ghost use Rattle.record_machine.specs.Commands.{Step};
 ghost use Rattle.record_machine.specs.Machine.{Machine};
-ghost use Rattle.cluster_core.specs.Answering.{reply_found, reply_of};
+ghost use Rattle.cluster_core.specs.Answering.{reply_deleted, reply_flushed, reply_found, reply_of};
 ghost use Rattle.private_log.specs.Reading.{contents};
 ghost use Rattle.cluster_core.specs.Causes.{IsAnswer, IsToldIn};
-ghost use Rattle.cluster_core.specs.Footprint.{IsAtHand, KeepsAllButLog};
+ghost use Rattle.cluster_core.specs.Changes.{WritesBack};
+ghost use Rattle.cluster_core.specs.Footprint.{IsAtHand, KeepsAllButLog, NarrowsBesides};
 ghost use Rattle.cluster_core.specs.Known.{known};
-ghost use Rattle.cluster_core.specs.Ports.{HasCause, IsQuiet, IsServed, says_stop};
+ghost use Rattle.cluster_core.specs.Ports.{HasCause, IsQuiet, IsServed, OnUp, says_stop};
 ghost use Rattle.cluster_core.specs.Shows.{IsShown};
 
 use crate::cluster::Cluster;
 use script_text::{Command, Reply};
-use sd_base::{Disk, Key, TxnId, Value};
+use sd_base::{Disk, Key, NodeId, TxnId, Value};
+use txn_core::Change;
 
 /// The reply to a command of which nothing is asked but that it is done.
 fn reply_of(done: Result<(), Reply>) -> Reply
@@ -37,6 +40,27 @@ fn reply_found(found: Result<Option<Value>, Reply>) -> Reply
     }
 }
 
+/// The reply to a command that deletes a record, of which is told whether there was one.
+fn reply_deleted(deleted: Result<bool, Reply>) -> Reply
+    ensures { result ≡ reply_deleted deleted }
+{
+    match deleted {
+        Ok(true) => Reply::Fine,
+        Ok(false) => Reply::Absent,
+        Err(why) => why,
+    }
+}
+
+/// The reply to a command that writes the changed pages.
+fn reply_flushed(written: Result<u32, Reply>) -> Reply
+    ensures { result ≡ reply_flushed written }
+{
+    match written {
+        Ok(count) => Reply::Flushed(count),
+        Err(why) => why,
+    }
+}
+
 impl Cluster {
     /// Executes a command.
     ///
@@ -55,13 +79,18 @@ impl Cluster {
         ensures quiet { IsTrue D.told → IsQuiet self.new (D.state disk.new).block }
         ensures keeps { Keeps 1 (D.state disk.old) (D.state disk.new) }
         ensures vault_keeps { Keeps 1 (V.state vault.old) (V.state vault.new) }
+        ensures besides { IsTrue D.told → NarrowsBesides self.old.shape (D.state disk.old).block (D.state disk.new).block }
+        ensures vault_outcomes { IsTrue V.told → Narrows (V.state vault.old).block (V.state vault.new).block }
         ensures shape { self.new.shape ≡ self.old.shape }
         ensures cause { HasCause result (D.state disk.old) (D.state disk.new) }
         ensures known { (why : Reply) → known self.old command.now ≡ Some why → (result ≡ why) × (self.new ≡ self.old) × (disk.new ≡ disk.old) × (vault.new ≡ vault.old) }
         ensures answer { known self.old command.now ≡ None → IsAnswer self.new command.now result }
         ensures told { IsTrue D.told → known self.old command.now ≡ None → IsToldIn self.old.shape (contents (D.state disk.new).block) command.now result }
         ensures commit_contents { IsTrue D.told → says_stop result ≡ false → (t : TxnId) → command.now ≡ Command.Commit t → KeepsAllButLog self.old.shape (D.state disk.old).block (D.state disk.new).block }
+        ensures append_memory { (t : TxnId) (key : Key) (bytes : List ℕ) → command.now ≡ Command.Append t key bytes → IsAtHand self.old key.0 → (disk.new ≡ disk.old) × (vault.new ≡ vault.old) }
         ensures put_memory { (t : TxnId) (key : Key) (value : List ℕ) → command.now ≡ Command.Put t key value → IsAtHand self.old key.0 → (disk.new ≡ disk.old) × (vault.new ≡ vault.old) }
+        ensures flushed { (n : NodeId) → command.now ≡ Command.Flush n → known self.old command.now ≡ None → says_stop result ≡ false → (count : ℕ) × (result ≡ says.Flushed count) × OnUp self.old.node (λ c old. OnUp self.new.node (λ d new. WritesBack c d count)) }
+        ensures stat { (n : NodeId) → command.now ≡ Command.Stat n → (self.new ≡ self.old) × (disk.new ≡ disk.old) × (vault.new ≡ vault.old) }
         ensures step { IsTrue D.told → says_stop result ≡ false → (m : Machine) → IsShown self.old (D.state disk.old).block m → Step m command.now result (IsShown self.new (D.state disk.new).block) }
     {
         self.law_of_clusters();
@@ -72,16 +101,19 @@ impl Cluster {
             Command::Start(_) => reply_of(self.start(disk, vault)),
             Command::Begin(t) => reply_of(self.begin(disk, vault, t)),
             Command::Get(t, key) => reply_found(self.get(disk, vault, t, key)),
-            Command::Put(t, key, value) => reply_of(self.put(disk, vault, t, key, value)),
+            Command::Put(t, key, value) => {
+                reply_of(self.write_record(disk, vault, t, key, &Change::Put(value)))
+            }
+            Command::Append(t, key, bytes) => {
+                reply_of(self.write_record(disk, vault, t, key, &Change::Append(bytes)))
+            }
+            Command::Del(t, key) => reply_deleted(self.delete(disk, vault, t, key)),
             Command::Commit(t) => reply_of(self.commit(disk, vault, t)),
-            Command::Format(_)
-            | Command::Bad
-            | Command::Append(..)
-            | Command::Del(..)
-            | Command::Abort(_)
-            | Command::Flush(_)
-            | Command::Dump(_)
-            | Command::Stat(_) => unreachable!(),
+            Command::Flush(_) => reply_flushed(self.flush(disk, vault)),
+            Command::Stat(_) => self.stat(),
+            Command::Format(_) | Command::Bad | Command::Abort(_) | Command::Dump(_) => {
+                unreachable!()
+            }
         }
     }
 }

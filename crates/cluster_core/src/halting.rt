@@ -79,9 +79,10 @@ pub(crate) fn give_up<D: Disk, V: Disk>(
     ensures live { AreLive node.new (D.state disk.new) }
     ensures vault_live { AreLive node.new (V.state vault.new) }
     ensures outcomes { IsTrue D.told → Narrows (D.state disk.old).block (D.state disk.new).block }
+    ensures vault_outcomes { IsTrue V.told → Narrows (V.state vault.old).block (V.state vault.new).block }
     ensures quiet { IsTrue D.told → IsCoveredBut s.now node.new (D.state disk.new).block }
     ensures node { OnStop fault (node.new ≡ Down) }
-    ensures kept { UnlessStopped fault ((node.new ≡ node.old) × (shared.new ≡ shared.old) × (disk.new ≡ disk.old)) }
+    ensures kept { UnlessStopped fault ((node.new ≡ node.old) × (shared.new ≡ shared.old) × (disk.new ≡ disk.old) × (vault.new ≡ vault.old)) }
 {
     match fault {
         DevFault::Stopped(n) => {

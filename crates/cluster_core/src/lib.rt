@@ -9,7 +9,9 @@
 mod changing;
 mod checking;
 mod cluster;
+mod deleting;
 mod executing;
+mod flushing;
 mod formatting;
 mod getting;
 mod halting;

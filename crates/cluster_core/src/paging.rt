@@ -1,5 +1,5 @@
 ghost use Rattle.std.specs.Prelude.{◌≡◌, ◌<◌, ◌≤◌, true, None, ℕ, IsTrue, IsOk, IfErr, OnOk, OnErr};
-ghost use Rattle.sd_base.specs.Calls.{Keeps};
+ghost use Rattle.sd_base.specs.Calls.{Keeps, Narrows};
 ghost use Rattle.sd_base.specs.Shape.{page_count};
 ghost use Rattle.node_cache.specs.Cache.{is_cached};
 ghost use Rattle.node_cache.specs.Room.{IsEntryOf, map_of};
@@ -9,6 +9,7 @@ ghost use Rattle.private_log.specs.Reading.{contents};
 ghost use Rattle.cluster_core.specs.Causes.{IsFaultOfPage, IsToldOfPages};
 ghost use Rattle.cluster_core.specs.Changes.{ShowsMap};
 ghost use Rattle.cluster_core.specs.Known.{has_txn};
+ghost use Rattle.cluster_core.specs.Footprint.{NarrowsBesides};
 ghost use Rattle.cluster_core.specs.Ports.{HasCause, IsQuiet, IsServed, OnUp, is_up, says_stop};
 ghost use Rattle.cluster_core.specs.Shows.{IsShown};
 ghost use Rattle.record_machine.specs.Machine.{Machine};
@@ -39,6 +40,8 @@ impl Cluster {
         ensures quiet { IsTrue D.told → IsQuiet self.new (D.state disk.new).block }
         ensures keeps { Keeps 1 (D.state disk.old) (D.state disk.new) }
         ensures vault_keeps { Keeps 1 (V.state vault.old) (V.state vault.new) }
+        ensures besides { IsTrue D.told → NarrowsBesides self.old.shape (D.state disk.old).block (D.state disk.new).block }
+        ensures vault_outcomes { IsTrue V.told → Narrows (V.state vault.old).block (V.state vault.new).block }
         ensures cause { IfErr result (λ why. HasCause why (D.state disk.old) (D.state disk.new)) }
         ensures fault { IfErr result (IsFaultOfPage self.old.shape x) }
         ensures told { IsTrue D.told → IfErr result (IsToldOfPages self.old.shape (contents (D.state disk.new).block)) }

@@ -1,6 +1,6 @@
 ghost use Rattle.std.specs.Prelude.{◌≡◌, ◌≤◌, ◌<◌, true, ℕ, IsTrue, IsOk, IfErr, IfOk, IfNone, IfSome, OnOk, option_map};
 ghost use Rattle.std.specs.List.{position};
-ghost use Rattle.sd_base.specs.Calls.{Keeps};
+ghost use Rattle.sd_base.specs.Calls.{Keeps, Narrows};
 ghost use Rattle.sd_base.specs.Shape.{page_count};
 ghost use Rattle.sd_base.specs.declared.names.TxnId.{TxnId};
 ghost use Rattle.space_map.specs.Entry.{is_used_by};
@@ -12,7 +12,7 @@ ghost use Rattle.record_machine.specs.Parts.{Take, dos, one};
 ghost use Rattle.private_log.specs.Reading.{contents};
 ghost use Rattle.cluster_core.specs.Causes.{HasNoPage, IsFaultFor, IsFaultOfPage, IsPageFor, IsToldOfPages};
 ghost use Rattle.cluster_core.specs.Changes.{ShowsMap};
-ghost use Rattle.cluster_core.specs.Footprint.{HasPlace};
+ghost use Rattle.cluster_core.specs.Footprint.{HasPlace, NarrowsBesides};
 ghost use Rattle.cluster_core.specs.Known.{has_txn};
 ghost use Rattle.cluster_core.specs.Places.{map_number, page_number};
 ghost use Rattle.cluster_core.specs.Ports.{HasCause, IsQuiet, IsServed, OnUp, is_up, says_stop};
@@ -42,6 +42,8 @@ impl Cluster {
         ensures quiet { IsTrue D.told → IsQuiet self.new (D.state disk.new).block }
         ensures keeps { Keeps 1 (D.state disk.old) (D.state disk.new) }
         ensures vault_keeps { Keeps 1 (V.state vault.old) (V.state vault.new) }
+        ensures besides { IsTrue D.told → NarrowsBesides self.old.shape (D.state disk.old).block (D.state disk.new).block }
+        ensures vault_outcomes { IsTrue V.told → Narrows (V.state vault.old).block (V.state vault.new).block }
         ensures cause { IfErr result (λ why. HasCause why (D.state disk.old) (D.state disk.new)) }
         ensures fault { IfErr result (IsFaultOfPage self.old.shape (record { 0 = page_number self.old.shape map.0 place })) }
         ensures told { IsTrue D.told → IfErr result (IsToldOfPages self.old.shape (contents (D.state disk.new).block)) }
@@ -77,6 +79,8 @@ impl Cluster {
         ensures quiet { IsTrue D.told → IsQuiet self.new (D.state disk.new).block }
         ensures keeps { Keeps 1 (D.state disk.old) (D.state disk.new) }
         ensures vault_keeps { Keeps 1 (V.state vault.old) (V.state vault.new) }
+        ensures besides { IsTrue D.told → NarrowsBesides self.old.shape (D.state disk.old).block (D.state disk.new).block }
+        ensures vault_outcomes { IsTrue V.told → Narrows (V.state vault.old).block (V.state vault.new).block }
         ensures cause { IfErr result (λ why. HasCause why (D.state disk.old) (D.state disk.new)) }
         ensures fault { IfErr result (IsFaultFor self.old.shape key) }
         ensures told { IsTrue D.told → IfErr result (IsToldOfPages self.old.shape (contents (D.state disk.new).block)) }

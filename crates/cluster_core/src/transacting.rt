@@ -1,10 +1,10 @@
 ghost use Rattle.std.specs.Prelude.{◌≡◌, ◌≤◌, ◌+◌, ◌∷◌, [], true, false, IsTrue, IfErr, OnOk};
-ghost use Rattle.sd_base.specs.Calls.{Keeps};
+ghost use Rattle.sd_base.specs.Calls.{Keeps, Narrows};
 ghost use Rattle.record_machine.specs.Machine.{Machine};
 ghost use Rattle.record_machine.specs.Parts.{Begin, Seal, Unlock, dos, one};
 ghost use Rattle.private_log.specs.Log.{space};
 ghost use Rattle.txn_core.specs.Seats.{is_busy, owed};
-ghost use Rattle.cluster_core.specs.Footprint.{KeepsAllButLog};
+ghost use Rattle.cluster_core.specs.Footprint.{KeepsAllButLog, NarrowsBesides};
 ghost use Rattle.cluster_core.specs.Ports.{HasCause, IsQuiet, IsServed, OnUp, is_up, says_stop};
 ghost use Rattle.cluster_core.specs.Shows.{IsShown};
 
@@ -33,6 +33,8 @@ impl Cluster {
         ensures quiet { IsTrue D.told → IsQuiet self.new (D.state disk.new).block }
         ensures keeps { Keeps 1 (D.state disk.old) (D.state disk.new) }
         ensures vault_keeps { Keeps 1 (V.state vault.old) (V.state vault.new) }
+        ensures besides { IsTrue D.told → NarrowsBesides self.old.shape (D.state disk.old).block (D.state disk.new).block }
+        ensures vault_outcomes { IsTrue V.told → Narrows (V.state vault.old).block (V.state vault.new).block }
         ensures cause { IfErr result (λ why. HasCause why (D.state disk.old) (D.state disk.new)) }
         ensures shape { self.new.shape ≡ self.old.shape }
         ensures up { OnOk result (is_up self.new.node ≡ true) }
@@ -78,6 +80,8 @@ impl Cluster {
         ensures quiet { IsTrue D.told → IsQuiet self.new (D.state disk.new).block }
         ensures keeps { Keeps 1 (D.state disk.old) (D.state disk.new) }
         ensures vault_keeps { Keeps 1 (V.state vault.old) (V.state vault.new) }
+        ensures besides { IsTrue D.told → NarrowsBesides self.old.shape (D.state disk.old).block (D.state disk.new).block }
+        ensures vault_outcomes { IsTrue V.told → Narrows (V.state vault.old).block (V.state vault.new).block }
         ensures cause { IfErr result (λ why. HasCause why (D.state disk.old) (D.state disk.new)) }
         ensures shape { self.new.shape ≡ self.old.shape }
         ensures shows { OnOk result (IsTrue D.told → (m : Machine) → IsShown self.old (D.state disk.old).block m → IsShown self.new (D.state disk.new).block (dos (Seal t ∷ Unlock t ∷ []) m)) }

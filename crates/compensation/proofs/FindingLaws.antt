@@ -9,9 +9,9 @@ use Rattle.compensation.specs.Left.{is_update_of, next_after, lies_before, takes
 use Rattle.compensation.specs.Finding.{left_at, record_at, record_before, next_behind, TellsLeft}
 use Rattle.compensation.proofs.LeftLaws.{here, left-update, left-compensation, not_before, update_not_compensation, compensation_not_update}
 
--- ---- the newest that is left, and what was left before it
+-- ---- an update that is left, and what was left before it
 
-record IsNewest (t first : ℕ) (recs : List LogRecord) (u : ℕ) (rest : List ℕ) : Type 0 where
+record IsLeft (t first : ℕ) (recs : List LogRecord) (u : ℕ) (rest : List ℕ) : Type 0 where
   before : List LogRecord
   rec : LogRecord
   behind : List LogRecord
@@ -51,11 +51,31 @@ or_false : (b : Bool) → (b || false) ≡ b
 or_false true = refl
 or_false false = refl
 
-newest_is : (t first : ℕ) (recs : List LogRecord) (u : ℕ) (rest : List ℕ) → uncompensated t first recs ≡ u ∷ rest → IsNewest t first recs u rest
-newest_is t first [] u rest e = cc
-newest_is t first (r ∷ rs) u rest e = by (uncompensated t (first + 1) rs) refl e (λ v vs f. newest_is t (first + 1) rs v vs f)
+-- an element of a list with at most one more stands in the list, or is that one
+cut : (xs newer end : List ℕ) (u : ℕ) (rest : List ℕ) → length end ≤ 1 → xs ++ end ≡ newer ++ u ∷ rest → ((more : List ℕ) × (xs ≡ newer ++ u ∷ more) × (more ++ end ≡ rest)) ⊎ (end ≡ u ∷ rest)
+cut [] [] end u rest short e = inr e
+cut [] (n ∷ ns) end u rest short e = let count = ap length e in let more = length-append ns (u ∷ rest) in absurd (omega (arith, short, count, more))
+cut (x ∷ xs) [] end u rest short e =
+    let same : x ≡ u = cc in
+    let tail : xs ++ end ≡ rest = cc in
+    inl (xs, ap (λ n. n ∷ xs) same, tail)
+cut (x ∷ xs) (n ∷ ns) end u rest short e =
+    let same : x ≡ n = cc in
+    let tail : xs ++ end ≡ ns ++ u ∷ rest = cc in
+    elim (cut xs ns end u rest short tail) as (λ _. ((more : List ℕ) × (x ∷ xs ≡ n ∷ (ns ++ u ∷ more)) × (more ++ end ≡ rest)) ⊎ (end ≡ u ∷ rest)) [
+      | inl h ↦ inl (h.0, (λ i. same i ∷ h.1 i), h.2)
+      | inr h ↦ inr h
+    ]
+
+left_is : (t first : ℕ) (recs : List LogRecord) (newer : List ℕ) (u : ℕ) (rest : List ℕ) → uncompensated t first recs ≡ newer ++ u ∷ rest → IsLeft t first recs u rest
+left_is t first [] newer u rest e = let count = ap length e in let more = length-append newer (u ∷ rest) in absurd (omega (arith, count, more))
+left_is t first (r ∷ rs) newer u rest e = by (cut (uncompensated t (first + 1) rs) newer (here (is_update_of t r) (list_any (takes_back t first) rs) first) u rest (short (is_update_of t r && not (list_any (takes_back t first) rs))) e) (λ more is. left_is t (first + 1) rs newer u more is)
   where
-    alone : (b g : Bool) → list_any (takes_back t first) rs ≡ g → is_update_of t r ≡ b → here b g first ≡ u ∷ rest → IsNewest t first (r ∷ rs) u rest
+    short : (b : Bool) → length (cond b (first ∷ []) []) ≤ 1
+    short true = omega arith
+    short false = omega arith
+
+    alone : (b g : Bool) → list_any (takes_back t first) rs ≡ g → is_update_of t r ≡ b → here b g first ≡ u ∷ rest → IsLeft t first (r ∷ rs) u rest
     alone true false kept is e = record {
       before = [];
       rec = r;
@@ -69,17 +89,16 @@ newest_is t first (r ∷ rs) u rest e = by (uncompensated t (first + 1) rs) refl
     alone true true kept is e = cc
     alone false g kept is e = cc
 
-    by : (xs : List ℕ) → uncompensated t (first + 1) rs ≡ xs → xs ++ here (is_update_of t r) (list_any (takes_back t first) rs) first ≡ u ∷ rest → ((v : ℕ) (vs : List ℕ) → uncompensated t (first + 1) rs ≡ v ∷ vs → IsNewest t (first + 1) rs v vs) → IsNewest t first (r ∷ rs) u rest
-    by [] is e more = alone (is_update_of t r) (list_any (takes_back t first) rs) refl refl e
-    by (v ∷ vs) is e more =
-        let h : IsNewest t (first + 1) rs v vs = more v vs is in
-        let same : v ≡ u = cc in
-        let tail : vs ++ here (is_update_of t r) (list_any (takes_back t first) rs) first ≡ rest = cc in
-        let low : first ≤ v = (let n = h.number in omega arith) in
+    by : ((more : List ℕ) × (uncompensated t (first + 1) rs ≡ newer ++ u ∷ more) × (more ++ here (is_update_of t r) (list_any (takes_back t first) rs) first ≡ rest)) ⊎ (here (is_update_of t r) (list_any (takes_back t first) rs) first ≡ u ∷ rest)
+        → ((more : List ℕ) → uncompensated t (first + 1) rs ≡ newer ++ u ∷ more → IsLeft t (first + 1) rs u more) → IsLeft t first (r ∷ rs) u rest
+    by (inr it) deeper = alone (is_update_of t r) (list_any (takes_back t first) rs) refl refl it
+    by (inl it) deeper =
+        let h : IsLeft t (first + 1) rs u it.0 = deeper it.0 it.1 in
+        let low : first ≤ u = (let n = h.number in omega arith) in
         let gone : list_any (takes_back t first) rs ≡ list_any (takes_back t first) h.before =
         ap (list_any (takes_back t first)) h.split
         ∙ any-append (takes_back t first) h.before (h.rec ∷ h.behind)
-        ∙ ap (λ b. list_any (takes_back t first) h.before || b) (ap (λ o. lies_before o first || list_any (takes_back t first) h.behind) (update_not_compensation t h.rec h.update) ∙ none_fewer t first v h.behind low h.stays)
+        ∙ ap (λ b. list_any (takes_back t first) h.before || b) (ap (λ o. lies_before o first || list_any (takes_back t first) h.behind) (update_not_compensation t h.rec h.update) ∙ none_fewer t first u h.behind low h.stays)
         ∙ or_false (list_any (takes_back t first) h.before) in
         record {
           before = r ∷ h.before;
@@ -88,8 +107,8 @@ newest_is t first (r ∷ rs) u rest e = by (uncompensated t (first + 1) rs) refl
           split = ap (λ xs. r ∷ xs) h.split;
           number = (let n = h.number in omega arith);
           update = h.update;
-          stays = ap (λ n. list_any (takes_back t n) h.behind) (sym same) ∙ h.stays;
-          left = sym tail ∙ (λ i. h.left i ++ here (is_update_of t r) (gone i) first);
+          stays = h.stays;
+          left = sym it.2 ∙ (λ i. h.left i ++ here (is_update_of t r) (gone i) first);
         }
 
 -- ---- the numbers of what is left
@@ -214,6 +233,20 @@ record_at-is first recs r le = ap (λ b. cond b (slice_get recs (r - first)) Non
 not_le : (a b : ℕ) → b < a → nat_le a b ≡ false
 not_le a b lt = grind (arith, nat_tests)
 
+-- an update that is left stands where its number says
+left_stands : (t first : ℕ) (recs : List LogRecord) (u : ℕ) (rest : List ℕ) (h : IsLeft t first recs u rest) → slice_get recs (length h.before) ≡ Some h.rec
+left_stands t first recs u rest h = ap (λ xs. slice_get xs (length h.before)) h.split ∙ length-before h.before h.rec h.behind
+
+-- its record is an update
+pub update_left : (t first : ℕ) (recs : List LogRecord) (newer : List ℕ) (u : ℕ) (rest : List ℕ) (rec : LogRecord) → uncompensated t first recs ≡ newer ++ u ∷ rest → record_at first recs u ≡ Some rec → is_update_of t rec ≡ true
+update_left t first recs newer u rest rec left at =
+    let h = left_is t first recs newer u rest left in
+    let low : first ≤ u = (let n = h.number in omega arith) in
+    let place : u - first ≡ length h.before = (let n = h.number in omega arith) in
+    let same : Some h.rec ≡ Some rec = sym (left_stands t first recs u rest h) ∙ sym (ap (slice_get recs) place) ∙ sym (record_at-is first recs u low) ∙ at in
+    let one : h.rec ≡ rec = cc in
+    ap (is_update_of t) (sym one) ∙ h.update
+
 -- what is next behind an update: as much was left at it as before the update
 next_behind_is : (t first : ℕ) (recs : List LogRecord) (update : LogRecord) → TellsLeft t first recs → first ≤ record_before update → (next_behind t first recs update ≤ record_before update) × (left_at t first recs (next_behind t first recs update) ≡ left_at t first recs (record_before update))
 next_behind_is t first recs update told low =
@@ -227,41 +260,48 @@ next_behind_is t first recs update told low =
         let number : record_before update + 1 - first ≡ record_before update - first + 1 = omega arith in
         (omega (arith, here.0), here.1 ∙ ap (λ n. uncompensated t first (take n recs)) (sym number))
 
+-- what the record of an update that is left tells
+record IsTold (t first : ℕ) (recs : List LogRecord) (u : ℕ) (rest : List ℕ) (update : LogRecord) : Type 0 where
+  place : ℕ
+  number : u ≡ first + place
+  within : place < length recs
+  low : first ≤ record_before update
+  high : record_before update < u
+  left : rest ≡ left_at t first recs (next_behind t first recs update)
+  next_low : next_behind t first recs update ≤ record_before update
+
+left_told : (t first : ℕ) (recs : List LogRecord) (newer : List ℕ) (u : ℕ) (rest : List ℕ) (update : LogRecord) → TellsLeft t first recs → uncompensated t first recs ≡ newer ++ u ∷ rest → record_at first recs u ≡ Some update → IsTold t first recs u rest update
+left_told t first recs newer u rest update told left at =
+    let h : IsLeft t first recs u rest = left_is t first recs newer u rest left in
+    let i : ℕ = length h.before in
+    let reads = left_stands t first recs u rest h in
+    let low : first ≤ u = (let n = h.number in omega arith) in
+    let place : u - first ≡ i = (let n = h.number in omega arith) in
+    let here = told.update i update (ap (slice_get recs) (sym place) ∙ sym (record_at-is first recs u low) ∙ at) (update_left t first recs newer u rest update left at) in
+    let front : take i recs ≡ h.before = ap (take i) h.split ∙ take_at h.before (h.rec ∷ h.behind) i refl in
+    let behind = next_behind_is t first recs update told here.0 in
+    record {
+      place = i;
+      number = h.number;
+      within = within recs i h.rec reads;
+      low = here.0;
+      high = (let n = h.number in omega (arith, here.1));
+      left = h.left ∙ ap (uncompensated t first) (sym front) ∙ sym here.2 ∙ sym behind.1;
+      next_low = behind.0;
+    }
+
+-- what is left before it is what was left at the record that is next behind it
+pub left_behind : (t first : ℕ) (recs : List LogRecord) (newer : List ℕ) (u : ℕ) (rest : List ℕ) (update : LogRecord) → TellsLeft t first recs → uncompensated t first recs ≡ newer ++ u ∷ rest → record_at first recs u ≡ Some update → left_at t first recs (next_behind t first recs update) ≡ rest
+left_behind t first recs newer u rest update told left at = sym (left_told t first recs newer u rest update told left at).left
+
 -- what a compensation leaves that takes back the newest update, and that it tells so
 module _ (t first : ℕ) (recs : List LogRecord) (u : ℕ) (rest : List ℕ) (update rec : LogRecord) (told : TellsLeft t first recs) (newest : uncompensated t first recs ≡ u ∷ rest) (at : record_at first recs u ≡ Some update) (is : next_after t rec ≡ Some (next_behind t first recs update)) where
-  record Newest : Type 0 where
-    place : ℕ
-    number : u ≡ first + place
-    within : place < length recs
-    low : first ≤ record_before update
-    high : record_before update < u
-    left : rest ≡ left_at t first recs (next_behind t first recs update)
-    next_low : next_behind t first recs update ≤ record_before update
-
-  newest_told : IsNewest t first recs u rest → Newest
-  newest_told h =
-      let i : ℕ = length h.before in
-      let reads : slice_get recs i ≡ Some h.rec = ap (λ xs. slice_get xs i) h.split ∙ length-before h.before h.rec h.behind in
-      let low : first ≤ u = (let n = h.number in omega arith) in
-      let place : u - first ≡ i = (let n = h.number in omega arith) in
-      let same : Some h.rec ≡ Some update = sym reads ∙ sym (ap (slice_get recs) place) ∙ sym (record_at-is first recs u low) ∙ at in
-      let one : h.rec ≡ update = cc in
-      let here = told.update i update (reads ∙ same) (ap (is_update_of t) (sym one) ∙ h.update) in
-      let front : take i recs ≡ h.before = ap (take i) h.split ∙ take_at h.before (h.rec ∷ h.behind) i refl in
-      let behind = next_behind_is t first recs update told here.0 in
-      record {
-        place = i;
-        number = h.number;
-        within = within recs i h.rec reads;
-        low = here.0;
-        high = (let n = h.number in omega (arith, here.1));
-        left = h.left ∙ ap (uncompensated t first) (sym front) ∙ sym here.2 ∙ sym behind.1;
-        next_low = behind.0;
-      }
+  newest_told : IsTold t first recs u rest update
+  newest_told = left_told t first recs [] u rest update told newest at
 
   pub left-taken_back : uncompensated t first (recs ++ rec ∷ []) ≡ rest
   left-taken_back =
-      let h : Newest = newest_told (newest_is t first recs u rest newest) in
+      let h = newest_told in
       let q : ℕ = next_behind t first recs update in
       let above : nat_le u q ≡ false = not_le u q (omega (arith, h.high, h.next_low)) in
       let low : All (λ v. v ≤ q) rest = subst (All (λ v. v ≤ q)) (sym h.left) (left_at-bounded t first recs q) in
@@ -272,7 +312,7 @@ module _ (t first : ℕ) (recs : List LogRecord) (u : ℕ) (rest : List ℕ) (up
 
   pub TellsLeft-taken_back : TellsLeft t first (recs ++ rec ∷ [])
   TellsLeft-taken_back =
-      let h : Newest = newest_told (newest_is t first recs u rest newest) in
+      let h = newest_told in
       TellsLeft-push t first recs rec told
       (λ update_too. let no_update : true ≡ false = sym update_too ∙ compensation_not_update t (next_behind t first recs update) rec is in cc)
       (λ next is_next.

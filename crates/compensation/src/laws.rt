@@ -28,11 +28,13 @@ pub fn law_of_the_next_record()
 
 /// What is left of a transaction is found from its last record, where its records tell it: an update
 /// leads to itself and then to the record before it, and a compensation to what it says is next. At
-/// the record that began it nothing is left.
+/// the record that began it nothing is left, and what is left before an update was left at the record
+/// that is next behind the update.
 pub fn law_of_the_finding()
     ensures begun { (t first : ℕ) (recs : List LogRecord) → ((i : ℕ) (rec : LogRecord) → slice_get recs i ≡ Some rec → first + i ≤ t → is_update_of t rec ≡ false) → left_at t first recs t ≡ [] }
     ensures update { (t first i : ℕ) (recs : List LogRecord) (rec : LogRecord) → TellsLeft t first recs → slice_get recs i ≡ Some rec → is_update_of t rec ≡ true → left_at t first recs (first + i) ≡ (first + i) ∷ left_at t first recs (record_before rec) }
     ensures compensation { (t first i next : ℕ) (recs : List LogRecord) (rec : LogRecord) → TellsLeft t first recs → slice_get recs i ≡ Some rec → next_after t rec ≡ Some next → left_at t first recs (first + i) ≡ left_at t first recs next }
+    ensures behind { (t first u : ℕ) (recs : List LogRecord) (newer rest : List ℕ) (update : LogRecord) → TellsLeft t first recs → uncompensated t first recs ≡ newer ++ u ∷ rest → record_at first recs u ≡ Some update → left_at t first recs (next_behind t first recs update) ≡ rest }
 {}
 
 /// The records of a transaction go on telling what is left of it: where an update names the record

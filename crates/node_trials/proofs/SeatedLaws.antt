@@ -1,5 +1,5 @@
 -- What the calls of the seats leave of what their caller carries.
-use Rattle.std.specs.Prelude.{◌≡◌, ◌+◌, ◌^◌, ◌≤◌, ◌<◌, ℕ, zero, suc, Bool, true, false, IsTrue, List, [], ◌∷◌, Option, Some, None, Result, Ok, Err, OnOk, IfOk, IfSome, MatchOption, is_some, length, map, slice_index, slice_index_or, slice_set, refl}
+use Rattle.std.specs.Prelude.{◌≡◌, ◌+◌, ◌^◌, ◌<◌, ℕ, zero, suc, Bool, true, false, IsTrue, List, [], ◌∷◌, Option, Some, None, Result, Ok, Err, OnOk, IfOk, IfSome, MatchOption, is_some, length, slice_index_or, slice_set, refl}
 use Rattle.std.proofs.Common.{arith, ap, inl, inr, sym, subst, ◌∙◌}
 use Rattle.std.proofs.lemmas.Bool.{cases_eq}
 use Rattle.std.proofs.lemmas.List.{get_or-set_other}
@@ -16,7 +16,7 @@ use Rattle.log_record.specs.declared.record.LogRecord.{LogRecord}
 use Rattle.log_record.specs.Record.{page_op_of}
 use Rattle.private_log.specs.Log.{SameLog}
 use Rattle.node_cache.specs.Cache.{CachedPage, CacheState}
-use Rattle.compensation.specs.Left.{uncompensated}
+use Rattle.compensation.specs.Left.{is_update_of, uncompensated}
 use Rattle.compensation.specs.Finding.{newest, record_at}
 use Rattle.txn_core.specs.Seats.{AreTied, OpenTxn, SeatsState, is_busy, txn_in}
 use Rattle.txn_core.specs.Undo.{IsToUndo}
@@ -63,13 +63,13 @@ ready_read s told d d' pool owners c was keeps live writers =
 
 -- the page of the update that is to be taken back next, where it is cached
 pub to_undo_of : (pool : List (Option (List ℕ))) (pages : List CachedPage) (first : ℕ) (recs : List LogRecord) (t : OpenTxn) (number : ℕ) (x : PageNo) (v : PageView) → HasPage pool pages x v → v.ident < 2 ^ 63 + 2 ^ 40
-    → (newest (uncompensated t.begin first recs) ≡ Some number) × (rec : LogRecord) × (record_at first recs number ≡ Some rec) × IfSome (page_op_of rec) (λ o. o.0 ≡ x) → IsToUndo pool pages first recs t v
+    → (newest (uncompensated t.begin first recs) ≡ Some number) × (rec : LogRecord) × (record_at first recs number ≡ Some rec) × (is_update_of t.begin rec ≡ true) × IfSome (page_op_of rec) (λ o. o.0 ≡ x) → IsToUndo pool pages first recs t v
 to_undo_of pool pages first recs t number x v has room found = record {
   number = number;
   newest = found.0;
   update = found.1;
   there = found.2;
-  of_page = subst (λ y. IfSome (page_op_of found.1) (λ o. o.0 ≡ y)) (sym has.number) found.3;
+  of_page = subst (λ y. IfSome (page_op_of found.1) (λ o. o.0 ≡ y)) (sym has.number) found.4;
   cached = subst (λ y. HasPage pool pages y v) (sym has.number) has;
   room = room;
 }

@@ -156,6 +156,21 @@ impl<D: Disk> SeatBench<D> {
             .expect(rt, "what is next")
     }
 
+    /// The number of the update that is to be taken back after that one, and its page, if there is one.
+    pub(crate) fn next_but_one(&mut self, rt: &impl Abort, seat: u8) -> Option<(u64, PageNo)>
+        requires seat { seat ≤ 7 }
+        requires seated { IsSeated SHAPE D.told (D.state self.old.bench.disk) self.old.bench.pool self.old.bench.owners self.old.bench.cache self.old.seats self.old.left }
+        ensures seated { IsSeated SHAPE D.told (D.state self.new.bench.disk) self.new.bench.pool self.new.bench.owners self.new.bench.cache self.new.seats self.new.left }
+    {
+        self.check_busy(rt, seat);
+        let Bench { disk, cache, .. } = &mut self.bench;
+        let next = self.seats.next(disk, cache, seat);
+        let (number, _) = next.expect(rt, "what is next")?;
+        self.seats
+            .next_before(disk, cache, seat, number)
+            .expect(rt, "what is next then")
+    }
+
     /// Takes back the newest update that is left, whose page is cached, and answers its number. `None`
     /// where nothing is left.
     pub(crate) fn take_back(&mut self, rt: &impl Abort, seat: u8) -> Option<u64>

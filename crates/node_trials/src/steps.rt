@@ -72,7 +72,9 @@ fn perform<D: Disk>(rt: &impl Abort, bench: &mut SeatBench<D>, seat: u8, act: Ac
         Act::TakeBack(number) => {
             let next = bench.next(rt, seat);
             assert_eq!(rt; next, Some((number, PAGE)));
+            let then = bench.next_but_one(rt, seat);
             assert_eq!(rt; bench.take_back(rt, seat), Some(number));
+            assert_eq!(rt; bench.next(rt, seat), then);
         }
         Act::EndAbort => bench.end_abort(rt, seat),
         Act::Commit => bench.commit(rt, seat).expect(rt, "a commit"),

@@ -98,6 +98,14 @@ locked_done t w m lock was = record {
         or_false true is = refl
         or_false false is = is
 
+-- the tail of a log with one record more
+pub tail_longer : (n : ℕ) (p : Plain) (m : Machine) (rec : LogRecord) (k : ℕ) → m.tail k ≡ first_record m k + length (p.live k) → put n (m.tail n + 1) m.tail k ≡ first_record m k + length (put n (p.live n ++ rec ∷ []) p.live k)
+tail_longer n p m rec k old = by (k == n) refl
+  where
+    by : (b : Bool) → (k == n) ≡ b → put n (m.tail n + 1) m.tail k ≡ first_record m k + length (put n (p.live n ++ rec ∷ []) p.live k)
+    by true is = let same = eqb-true k n is in let more = length-append (p.live k) (rec ∷ []) in rw is (subst (λ i. m.tail i + 1 ≡ first_record m k + length (p.live i ++ rec ∷ [])) same (omega (arith, old, more)))
+    by false is = rw is old
+
 -- the deed stands in the log with its record
 logged_deed : (t : TxnId) (w : Option Write) (m : Machine) (recs : List LogRecord) (rec : LogRecord) (value : ℕ → ℕ → Option (List ℕ)) → m.tail t.node.0 ≡ first_record m t.node.0 + length recs → (w ≡ None → rec ≡ Begin) → IfSome w (λ x. Tells rec x (value t.seat x.key))
     → IsLogged (first_record m t.node.0) (recs ++ rec ∷ []) value (deed t w m)
@@ -110,20 +118,13 @@ logged_deed t w m recs rec value tail began tells = record {
 
 pub logs_done : (t : TxnId) (w : Option Write) (m : Machine) (p : Plain) (rec : LogRecord) → (w ≡ None → rec ≡ Begin) → IfSome w (λ x. Tells rec x (seen m t x.key)) → IfSome w (λ x. home m x.key ≡ Some x.page) → AreLogs p m → AreLogs (logged t.node.0 rec p) (done_by t w m)
 logs_done t w m p rec began tells here was = record {
-  tail = λ n. by_tail n;
+  tail = λ n. tail_longer t.node.0 p m rec n (was.tail n);
   deeds = λ n. by_deeds n;
   homes = λ u. at_or_off (λ ds. All (λ d. IfSome d.write (λ x. home m x.key ≡ Some x.page)) ds) t.node.0 (m.pending t.node.0 ++ deed t w m ∷ []) m.pending u.node.0
       (λ same. All-push (λ d. IfSome d.write (λ x. home m x.key ≡ Some x.page)) (m.pending t.node.0) (deed t w m) (was.homes t) here)
       (λ other. was.homes u);
 }
   where
-    by_tail : (n : ℕ) → put t.node.0 (m.tail t.node.0 + 1) m.tail n ≡ first_record m n + length (put t.node.0 (p.live t.node.0 ++ rec ∷ []) p.live n)
-    by_tail n = by (n == t.node.0) refl
-      where
-        by : (b : Bool) → (n == t.node.0) ≡ b → put t.node.0 (m.tail t.node.0 + 1) m.tail n ≡ first_record m n + length (put t.node.0 (p.live t.node.0 ++ rec ∷ []) p.live n)
-        by true is = let same = eqb-true n t.node.0 is in let old = was.tail n in let more = length-append (p.live n) (rec ∷ []) in subst (λ k. put k (m.tail k + 1) m.tail n ≡ first_record m n + length (put k (p.live k ++ rec ∷ []) p.live n)) same (rw (eq-eqb n n refl) (omega (arith, old, more)))
-        by false is = rw is (was.tail n)
-
     by_deeds : (n : ℕ) → AreLogged (first_record m n) (put t.node.0 (p.live t.node.0 ++ rec ∷ []) p.live n) (λ seat. m.records) (put t.node.0 (m.pending t.node.0 ++ deed t w m ∷ []) m.pending n)
     by_deeds n = by (n == t.node.0) refl
       where

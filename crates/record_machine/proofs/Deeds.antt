@@ -78,7 +78,7 @@ logged-push first recs value (e ∷ ds) d all last = (all.0, logged-push first r
 abbrev pub without : ℕ → List Deed → List Deed
 without seat ds = filter (λ d. not (d.seat == seat)) ds
 
-not_seat : (d : Deed) (seat other key : ℕ) → (d.seat == seat) ≡ true → other ≢ seat → writes_key other key d ≡ false
+pub not_seat : (d : Deed) (seat other key : ℕ) → (d.seat == seat) ≡ true → other ≢ seat → writes_key other key d ≡ false
 not_seat d seat other key is apart = let not : (d.seat == other) ≡ false = grind (arith, nat_tests) in rw not refl
 
 -- the others see what they saw

@@ -1,9 +1,10 @@
 -- A store as it is formatted.
 use Rattle.std.specs.Prelude.{◌≡◌, ℕ, true, false, Option, Some, None, option_map, replicate, slice_index_or, refl}
-use Rattle.std.specs.List.{position}
+use Rattle.std.specs.List.{position, range_with_len}
 use Rattle.std.proofs.Common.{arith, ap, sym, ◌∙◌}
 use Rattle.std.proofs.lemmas.List.{get_or-replicate, length-replicate}
 use Rattle.std.proofs.lemmas.List.Quantifiers.{position-Some}
+use Rattle.std.proofs.lemmas.List.Sums.{sum_by-le}
 use Rattle.sd_base.specs.Shape.{IsShape}
 use Rattle.sd_base.specs.declared.shape.Shape.{Shape}
 use Rattle.space_map.specs.declared.map_entry.MapEntry.TheVariants.{Free}
@@ -44,4 +45,5 @@ means_formatted s valid = record {
   };
   logs = record { tail = λ n. refl; deeds = λ n. tt; homes = λ t k d low. absurd (omega (arith, low)) };
   locked = record { apart = IsCompatible-empty; written = λ t key is. cc };
+  tops = λ x low high. let none = sum_by-le (λ n. 0) 0 (range_with_len 1 s.nodes) (λ k d within. omega arith) in let birth = valid.birth in omega (arith, none, birth);
 }

@@ -103,6 +103,7 @@ means_taken p m x n was = record {
   };
   logs = record { tail = was.logs.tail; deeds = was.logs.deeds; homes = was.logs.homes };
   locked = record { apart = was.locked.apart; written = was.locked.written };
+  tops = was.tops;
 }
 
 -- a node that starts changes nothing that the logs, the pages and the locks mean
@@ -123,4 +124,5 @@ means_started p m n was = record {
   };
   logs = record { tail = was.logs.tail; deeds = was.logs.deeds; homes = was.logs.homes };
   locked = record { apart = was.locked.apart; written = was.locked.written };
+  tops = was.tops;
 }

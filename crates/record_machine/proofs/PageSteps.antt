@@ -1,5 +1,5 @@
 -- The pages after a step.
-use Rattle.std.specs.Prelude.{◌≡◌, ◌≢◌, ◌==◌, ◌+◌, ◌*◌, ◌%◌, ◌≤◌, ◌<◌, ℕ, Bool, true, false, Some, None, replicate, slice_index_or, ◌⊎◌, refl}
+use Rattle.std.specs.Prelude.{◌≡◌, ◌≢◌, ◌==◌, ◌+◌, ◌*◌, ◌%◌, ◌≤◌, ◌<◌, ℕ, Bool, true, false, List, Option, Some, None, replicate, slice_index_or, ◌⊎◌, refl}
 use Rattle.std.proofs.Common.{arith, inl, inr, ap, subst, sym, ◌∙◌}
 use Rattle.std.proofs.lemmas.Bool.{cases_eq}
 use Rattle.sd_base.specs.declared.names.TxnId.{TxnId}
@@ -9,7 +9,7 @@ use Rattle.log_record.specs.declared.record.LogRecord.{LogRecord}
 use Rattle.log_record.specs.declared.record.LogRecord.TheVariants.{Begin}
 use Rattle.space_map.specs.declared.map_entry.MapEntry.TheVariants.{Free}
 use Rattle.space_map.specs.Entry.{ident_of}
-use Rattle.record_machine.specs.Machine.{Machine, Write, home, page_at, put}
+use Rattle.record_machine.specs.Machine.{Deed, Machine, Write, home, page_at, put}
 use Rattle.record_machine.specs.Parts.{done_by, one, Change}
 use Rattle.record_machine.specs.Meaning.{ArePages, IsChangedAt, IsPresent, Plain, logged, with_page}
 use Rattle.record_machine.proofs.Deeds.{writes_none, writes_other}
@@ -34,55 +34,71 @@ pages_begun t p m was = record {
   absent = was.absent;
 }
 
--- ---- a record is written
+-- ---- a slot of a page is written
 
-pub pages_changed : (t : TxnId) (w : Write) (p : Plain) (m : Machine) (rec : LogRecord) (v : PageView) → home m w.key ≡ Some w.page → IsChangedAt (w.key % 16) w.value (p.pages w.page) v → ArePages p m → ArePages (logged t.node.0 rec (with_page w.page v p)) (one (Change t w) m)
-pages_changed t w p m rec v here changed was = record {
+-- where this value is then the present one of the key, and those of the other keys are as before
+pub pages_written : (key x n : ℕ) (value : Option (List ℕ)) (pending : ℕ → List Deed) (tail : ℕ → ℕ) (p : Plain) (m : Machine) (rec : LogRecord) (v : PageView) → home m key ≡ Some x → IsChangedAt (key % 16) value (p.pages x) v
+    → IsPresent (record m { pending = pending; ident = put x (m.ident x + 1) m.ident; tail = tail }) key value
+    → ((other : ℕ) (u : Option (List ℕ)) → key ≢ other → IsPresent m other u → IsPresent (record m { pending = pending; ident = put x (m.ident x + 1) m.ident; tail = tail }) other u)
+    → ArePages p m → ArePages (logged n rec (with_page x v p)) (record m { pending = pending; ident = put x (m.ident x + 1) m.ident; tail = tail })
+pages_written key x n value pending tail p m rec v here changed now kept was = record {
   shape = was.shape;
   count = was.count;
   map_number = was.map_number;
-  number = λ x low high. by_number x low high;
+  number = λ y low high. by_number y low high;
   entries = was.entries;
-  map_ident = λ x low. was.map_ident x low ∙ sym (put_other w.page (m.ident w.page + 1) m.ident x (λ same. let own = page.0 in omega (arith, same, own, low)));
-  ident = λ x low high. by_ident x low high;
-  alive = λ map place low small. at_or_off (λ o. ident_of (slice_index_or (m.entries map) place (Free 0)) ≤ o.ident) w.page v p.pages (page_at m map place)
-      (λ same. let old = was.alive map place low small in let more = changed.ident in let here : (p.pages (page_at m map place)).ident ≡ (p.pages w.page).ident = ap (λ x. (p.pages x).ident) same in omega (arith, old, more, here))
+  map_ident = λ y low. was.map_ident y low ∙ sym (put_other x (m.ident x + 1) m.ident y (λ same. let own = page.0 in omega (arith, same, own, low)));
+  ident = λ y low high. by_ident y low high;
+  alive = λ map place low small. at_or_off (λ o. ident_of (slice_index_or (m.entries map) place (Free 0)) ≤ o.ident) x v p.pages (page_at m map place)
+      (λ same. let old = was.alive map place low small in let more = changed.ident in let here : (p.pages (page_at m map place)).ident ≡ (p.pages x).ident = ap (λ y. (p.pages y).ident) same in omega (arith, old, more, here))
       (λ other. was.alive map place low small);
   unused = λ map place ident low small free.
-      let apart : page_at m map place ≢ w.page = free_is_no_home p m w.key w.page map place ident was here small free in
+      let apart : page_at m map place ≢ x = free_is_no_home p m key x map place ident was here small free in
       let old = was.unused map place ident low small free in
-      subst (λ o. (o.ident ≡ ident) × (o.slots ≡ replicate 16 None)) (sym (put_other w.page v p.pages (page_at m map place) apart)) old;
-  present = λ key x is. by_present key x is;
+      subst (λ o. (o.ident ≡ ident) × (o.slots ≡ replicate 16 None)) (sym (put_other x v p.pages (page_at m map place) apart)) old;
+  present = λ other y is. by_present other y is;
   absent = was.absent;
 }
   where
-    page : (m.shape.maps ≤ w.page) × (w.page < 253 * m.shape.maps)
-    page = home_is_data p m w.key w.page was here
+    after : Machine
+    after = record m { pending = pending; ident = put x (m.ident x + 1) m.ident; tail = tail }
 
-    by_number : (x : ℕ) → m.shape.maps ≤ x → x < 253 * m.shape.maps → (put w.page v p.pages x).page.0 ≡ x
-    by_number x low high = at_or_off (λ (o : PageView). o.page.0 ≡ x) w.page v p.pages x (λ same. ap (λ y. y.0) changed.page ∙ was.number w.page page.0 page.1 ∙ sym same) (λ other. was.number x low high)
+    page : (m.shape.maps ≤ x) × (x < 253 * m.shape.maps)
+    page = home_is_data p m key x was here
 
-    by_ident : (x : ℕ) → m.shape.maps ≤ x → x < 253 * m.shape.maps → (put w.page v p.pages x).ident ≡ put w.page (m.ident w.page + 1) m.ident x
-    by_ident x low high = by (x == w.page) refl
+    by_number : (y : ℕ) → m.shape.maps ≤ y → y < 253 * m.shape.maps → (put x v p.pages y).page.0 ≡ y
+    by_number y low high = at_or_off (λ (o : PageView). o.page.0 ≡ y) x v p.pages y (λ same. ap (λ o. o.0) changed.page ∙ was.number x page.0 page.1 ∙ sym same) (λ other. was.number y low high)
+
+    by_ident : (y : ℕ) → m.shape.maps ≤ y → y < 253 * m.shape.maps → (put x v p.pages y).ident ≡ put x (m.ident x + 1) m.ident y
+    by_ident y low high = by (y == x) refl
       where
-        by : (b : Bool) → (x == w.page) ≡ b → (put w.page v p.pages x).ident ≡ put w.page (m.ident w.page + 1) m.ident x
-        by true is = rw is (changed.ident ∙ ap (λ n. n + 1) (was.ident w.page page.0 page.1))
-        by false is = rw is (was.ident x low high)
+        by : (b : Bool) → (y == x) ≡ b → (put x v p.pages y).ident ≡ put x (m.ident x + 1) m.ident y
+        by true is = rw is (changed.ident ∙ ap (λ n. n + 1) (was.ident x page.0 page.1))
+        by false is = rw is (was.ident y low high)
 
-    by_present : (key x : ℕ) → home m key ≡ Some x → IsPresent (one (Change t w) m) key (content (put w.page v p.pages x) (key % 16))
-    by_present key x is = elim (cases_eq w.key key) [
+    by_present : (other y : ℕ) → home m other ≡ Some y → IsPresent after other (content (put x v p.pages y) (other % 16))
+    by_present other y is = elim (cases_eq key other) [
       | inl same ↦
-          let one_page : Some w.page ≡ Some x = sym here ∙ ap (home m) same ∙ is in
-          let page : x ≡ w.page = cc in
-          let value : content (put w.page v p.pages x) (key % 16) ≡ w.value = ap (λ o. content o (key % 16)) (put_same w.page v p.pages x page) ∙ ap (λ k. content v (k % 16)) (sym same) ∙ changed.here in
-          subst (IsPresent (one (Change t w) m) key) (sym value) (subst (λ k. IsPresent (one (Change t w) m) k w.value) same (present_now t w (record m { ident = put w.page (m.ident w.page + 1) m.ident })))
-      | inr other ↦
-          let kept = present_kept t (Some w) (record m { ident = put w.page (m.ident w.page + 1) m.ident }) key (content (p.pages x) (key % 16)) (λ seat. writes_other seat key (deed t (Some w) (record m { ident = put w.page (m.ident w.page + 1) m.ident })) w refl other) (was.present key x is) in
-          subst (IsPresent (one (Change t w) m) key) (sym (value other (cases_eq x w.page))) kept
+          let one_page : Some x ≡ Some y = sym here ∙ ap (home m) same ∙ is in
+          let page : y ≡ x = cc in
+          let written : content (put x v p.pages y) (other % 16) ≡ value = ap (λ o. content o (other % 16)) (put_same x v p.pages y page) ∙ ap (λ k. content v (k % 16)) (sym same) ∙ changed.here in
+          subst (IsPresent after other) (sym written) (subst (λ k. IsPresent after k value) same now)
+      | inr apart ↦ subst (IsPresent after other) (sym (stays apart (cases_eq y x))) (kept other (content (p.pages y) (other % 16)) apart (was.present other y is))
     ]
       where
-        value : w.key ≢ key → (x ≡ w.page) ⊎ (x ≢ w.page) → content (put w.page v p.pages x) (key % 16) ≡ content (p.pages x) (key % 16)
-        value other (inl page) =
-            let group = one_group p m w.key key x was (here ∙ ap Some (sym page)) is in
-            ap (λ o. content o (key % 16)) (put_same w.page v p.pages x page) ∙ changed.others (key % 16) (λ e. other (omega (arith, e, group))) ∙ ap (λ y. content (p.pages y) (key % 16)) (sym page)
-        value other (inr page) = ap (λ o. content o (key % 16)) (put_other w.page v p.pages x page)
+        stays : key ≢ other → (y ≡ x) ⊎ (y ≢ x) → content (put x v p.pages y) (other % 16) ≡ content (p.pages y) (other % 16)
+        stays apart (inl page) =
+            let group = one_group p m key other y was (here ∙ ap Some (sym page)) is in
+            ap (λ o. content o (other % 16)) (put_same x v p.pages y page) ∙ changed.others (other % 16) (λ e. apart (omega (arith, e, group))) ∙ ap (λ z. content (p.pages z) (other % 16)) (sym page)
+        stays apart (inr page) = ap (λ o. content o (other % 16)) (put_other x v p.pages y page)
+
+-- as a transaction writes a record
+pub pages_changed : (t : TxnId) (w : Write) (p : Plain) (m : Machine) (rec : LogRecord) (v : PageView) → home m w.key ≡ Some w.page → IsChangedAt (w.key % 16) w.value (p.pages w.page) v → ArePages p m → ArePages (logged t.node.0 rec (with_page w.page v p)) (one (Change t w) m)
+pages_changed t w p m rec v here changed was =
+    pages_written w.key w.page t.node.0 w.value (one (Change t w) m).pending (one (Change t w) m).tail p m rec v here changed
+    (present_now t w raised)
+    (λ other u apart. present_kept t (Some w) raised other u (λ seat. writes_other seat other (deed t (Some w) raised) w refl apart))
+    was
+  where
+    raised : Machine
+    raised = record m { ident = put w.page (m.ident w.page + 1) m.ident }

@@ -1,9 +1,8 @@
 -- The machine after a transaction has ended.
-use Rattle.std.specs.Prelude.{◌≡◌, ◌≢◌, ◌==◌, ◌⊎◌, ◌+◌, ◌%◌, ◌++◌, ◌∷◌, [], ℕ, Bool, true, false, not, List, Option, Some, All, IfSome, length, refl}
+use Rattle.std.specs.Prelude.{◌≡◌, ◌≢◌, ◌==◌, ◌⊎◌, ◌%◌, ◌++◌, ◌∷◌, [], ℕ, Bool, true, false, not, List, Option, Some, All, IfSome, refl}
 use Rattle.std.specs.List.{list_any}
-use Rattle.std.proofs.Common.{arith, inl, inr, ap, subst, sym, ◌∙◌}
+use Rattle.std.proofs.Common.{inl, inr, ap, subst, sym, ◌∙◌}
 use Rattle.std.proofs.lemmas.Bool.{cases_eq, eq-eqb, eqb-true}
-use Rattle.std.proofs.lemmas.List.{length-append}
 use Rattle.std.proofs.lemmas.List.Elements.{All-filter}
 use Rattle.sd_base.specs.declared.names.Key.{Key}
 use Rattle.sd_base.specs.declared.names.TxnId.{TxnId}
@@ -15,7 +14,7 @@ use Rattle.record_machine.specs.Machine.{Machine, home, overlaid, put, seen}
 use Rattle.record_machine.specs.Parts.{Seal, one}
 use Rattle.record_machine.specs.Meaning.{AreLocked, AreLogged, AreLogs, ArePages, IsPresent, Plain, first_record, has_written, logged, writes_key}
 use Rattle.record_machine.proofs.Deeds.{logged-longer, logged-same, logged-without, overlaid_not, overlaid_others, without, written_none, written_others}
-use Rattle.record_machine.proofs.DeedSteps.{one_txn}
+use Rattle.record_machine.proofs.DeedSteps.{one_txn, tail_longer}
 use Rattle.record_machine.proofs.UseSteps.{never_written}
 use Rattle.record_machine.proofs.Put.{at_or_off, put_same}
 
@@ -24,7 +23,7 @@ pub one_writer : (m : Machine) (t u : TxnId) (key : ℕ) → AreLocked m → has
 one_writer m t u key locked one two = locked.apart (record { 0 = key }) t u locks.Write locks.Write (locked.written t (record { 0 = key }) one) (locked.written u (record { 0 = key }) two) refl
 
 -- a seat of another transaction
-other_seat : (t u : TxnId) → u ≢ t → u.node.0 ≡ t.node.0 → u.seat ≢ t.seat
+pub other_seat : (t u : TxnId) → u ≢ t → u.node.0 ≡ t.node.0 → u.seat ≢ t.seat
 other_seat t u apart node seat = apart (one_txn u t node seat)
 
 -- the others have written what they had
@@ -51,7 +50,7 @@ seen_own t m key = ap (overlaid t.seat key (seen m t key)) (put_same t.node.0 (w
 pub seen_nothing : (t u : TxnId) (m : Machine) (key : ℕ) (v : Option (List ℕ)) → has_written m u key ≡ false → overlaid u.seat key v (m.pending u.node.0) ≡ v
 seen_nothing t u m key v not = overlaid_not u.seat key v (m.pending u.node.0) not
 
-same_or_not : (t u : TxnId) → (u ≡ t) ⊎ (u ≢ t)
+pub same_or_not : (t u : TxnId) → (u ≡ t) ⊎ (u ≢ t)
 same_or_not t u = elim (cases_eq u.node.0 t.node.0) [
   | inl node ↦ elim (cases_eq u.seat t.seat) [
     | inl seat ↦ inl (one_txn u t node seat)
@@ -60,7 +59,7 @@ same_or_not t u = elim (cases_eq u.node.0 t.node.0) [
   | inr node ↦ inr (λ e. node (ap (λ o. o.node.0) e))
 ]
 
-not_written : (b : Bool) → (b ≡ true → ⊥) → b ≡ false
+pub not_written : (b : Bool) → (b ≡ true → ⊥) → b ≡ false
 not_written true never = absurd (never refl)
 not_written false never = refl
 
@@ -113,20 +112,13 @@ locked_sealed t m was = record { apart = was.apart; written = λ u key is. by u 
 -- and the others' deeds still stand in the log
 pub logs_sealed : (t : TxnId) (p : Plain) (m : Machine) (rec : LogRecord) → AreLocked m → AreLogs p m → AreLogs (logged t.node.0 rec p) (one (Seal t) m)
 logs_sealed t p m rec locked was = record {
-  tail = λ n. by_tail n;
+  tail = λ n. tail_longer t.node.0 p m rec n (was.tail n);
   deeds = λ n. by_deeds n;
   homes = λ u. at_or_off (λ ds. All (λ d. IfSome d.write (λ w. home m w.key ≡ Some w.page)) ds) t.node.0 (without t.seat (m.pending t.node.0)) m.pending u.node.0
       (λ node. All-filter (λ d. not (d.seat == t.seat)) (λ d. IfSome d.write (λ w. home m w.key ≡ Some w.page)) (m.pending t.node.0) (was.homes t))
       (λ other. was.homes u);
 }
   where
-    by_tail : (n : ℕ) → put t.node.0 (m.tail t.node.0 + 1) m.tail n ≡ first_record m n + length (put t.node.0 (p.live t.node.0 ++ rec ∷ []) p.live n)
-    by_tail n = by (n == t.node.0) refl
-      where
-        by : (b : Bool) → (n == t.node.0) ≡ b → put t.node.0 (m.tail t.node.0 + 1) m.tail n ≡ first_record m n + length (put t.node.0 (p.live t.node.0 ++ rec ∷ []) p.live n)
-        by true is = let same = eqb-true n t.node.0 is in let old = was.tail n in let more = length-append (p.live n) (rec ∷ []) in rw is (subst (λ i. m.tail i + 1 ≡ first_record m n + length (p.live i ++ rec ∷ [])) same (omega (arith, old, more)))
-        by false is = rw is (was.tail n)
-
     -- what another seat of the node has written, the sealed one hasn't
     same_value : (seat key : ℕ) → seat ≢ t.seat → list_any (writes_key seat key) (m.pending t.node.0) ≡ true → seen m t key ≡ m.records key
     same_value seat key apart theirs =

@@ -2,9 +2,9 @@
 use Rattle.std.specs.Prelude.{◌≡◌, ◌≢◌, ◌==◌, ◌⊎◌, ◌+◌, ◌/◌, ◌%◌, ◌≤◌, ◌<◌, ◌++◌, ◌∷◌, [], ℕ, suc, Bool, true, false, List, Option, Some, None, All, IfSome, length, option_map, replicate, slice_index_or, slice_set, refl}
 use Rattle.std.specs.List.{list_any, position}
 use Rattle.std.proofs.Common.{arith, inl, inr, ap, subst, sym, ◌∙◌}
-use Rattle.std.proofs.lemmas.Bool.{cases_eq, eq-eqb, eqb-true}
+use Rattle.std.proofs.lemmas.Bool.{cases_eq, eq-eqb}
 use Rattle.std.proofs.lemmas.Bool.Decides.{nat_tests}
-use Rattle.std.proofs.lemmas.List.{get_or-replicate, get_or-set_same, get_or-set_other, length-append, length-set}
+use Rattle.std.proofs.lemmas.List.{get_or-replicate, get_or-set_same, get_or-set_other, length-set}
 use Rattle.std.proofs.lemmas.List.Quantifiers.{position-Some}
 use Rattle.sd_base.specs.declared.names.GroupNo.{GroupNo}
 use Rattle.sd_base.specs.declared.names.TxnId.{TxnId}
@@ -18,6 +18,7 @@ use Rattle.record_machine.specs.Machine.{Deed, Machine, Write, free_place, group
 use Rattle.record_machine.specs.Parts.{Use, one}
 use Rattle.record_machine.specs.Meaning.{AreLocked, AreLogged, AreLogs, ArePages, IsPresent, IsUsed, Plain, first_record, has_written, logged, now_used, with_map, writes_key}
 use Rattle.record_machine.proofs.Deeds.{logged-longer, overlaid_not, writes_none, writes_other}
+use Rattle.record_machine.proofs.DeedSteps.{tail_longer}
 use Rattle.record_machine.proofs.Homes.{below_maps, position_kept, position_set}
 use Rattle.record_machine.proofs.Put.{at_or_off, put_other, put_same}
 
@@ -69,6 +70,18 @@ never_written p m key t logs none = by (m.pending t.node.0) (logs.homes t)
     by [] all = refl
     by (d ∷ ds) all = let first = not d d.write refl (all 0 d (omega arith)) in rw first (by ds (λ k e low. all (suc k) e (omega (arith, low))))
 
+-- an entry that is free
+as_free : (e : MapEntry) → is_free e ≡ true → e ≡ Free (ident_of e)
+as_free (Free ident) is = refl
+as_free (Used group ident) is = cc
+
+-- the page of a place that is free has no record
+pub blank_there : (p : Plain) (m : Machine) (map place slot : ℕ) → ArePages p m → map < m.shape.maps → position is_free (m.entries map) ≡ Some place → slot < 16 → content (p.pages (page_at m map place)) slot ≡ None
+blank_there p m map place slot pages within free low =
+    let there = free_there m map place (pages.count map within) free in
+    let blank = pages.unused map place (ident_of (slice_index_or (m.entries map) place (Free 0))) within there.0 (as_free (slice_index_or (m.entries map) place (Free 0)) there.1) in
+    ap (λ slots. slice_index_or slots slot None) blank.1 ∙ get_or-replicate 16 slot None None low
+
 pub pages_used : (n place : ℕ) (p : Plain) (m : Machine) (rec : LogRecord) (key : ℕ) (map : MapImage) → home m key ≡ None → free_place m key ≡ Some place → IsUsed m (map_of m key) place (group_of key) (p.maps (map_of m key)) map → AreLogs p m → ArePages p m
     → ArePages (logged n rec (with_map (map_of m key) map p)) (one (Use n (map_of m key) place (group_of key)) m)
 pages_used n place p m rec key map none free used logs was = record {
@@ -96,10 +109,6 @@ pages_used n place p m rec key map none free used logs was = record {
 
     count : length (m.entries at) ≡ 252
     count = was.count at within
-
-    as_free : (e : MapEntry) → is_free e ≡ true → e ≡ Free (ident_of e)
-    as_free (Free ident) is = refl
-    as_free (Used group ident) is = cc
 
     no_home : (other : ℕ) → key / 16 ≡ other / 16 → home m other ≡ None
     no_home other same = ap (λ g. option_map (page_at m (g % m.shape.maps)) (position (is_used_by (record { 0 = g })) (m.entries (g % m.shape.maps)))) (sym same) ∙ none
@@ -144,9 +153,7 @@ pages_used n place p m rec key map none free used logs was = record {
     by_present other x is (inl same) =
         let page : Some (page_at m at place) ≡ Some x = sym (home_new n place m key other count none free same) ∙ is in
         let page_is : page_at m at place ≡ x = cc in
-        let there = free_there m at place count free in
-        let blank = was.unused at place (ident_of (slice_index_or (m.entries at) place (Free 0))) within there.0 (as_free (slice_index_or (m.entries at) place (Free 0)) there.1) in
-        let nothing : content (p.pages x) (other % 16) ≡ None = ap (λ y. content (p.pages y) (other % 16)) (sym page_is) ∙ ap (λ slots. slice_index_or slots (other % 16) None) blank.1 ∙ get_or-replicate 16 (other % 16) None None (omega arith) in
+        let nothing : content (p.pages x) (other % 16) ≡ None = ap (λ y. content (p.pages y) (other % 16)) (sym page_is) ∙ blank_there p m at place (other % 16) was within free (omega arith) in
         λ t alone. nothing ∙ sym (overlaid_not t.seat other (m.records other) (m.pending t.node.0) (never_written p m other t logs (no_home other same)) ∙ was.absent other (no_home other same))
     by_present other x is (inr apart) = was.present other x (sym (home_kept n at place (group_of key) m other count free apart) ∙ is)
 
@@ -158,7 +165,7 @@ pages_used n place p m rec key map none free used logs was = record {
 pub logs_used : (n place : ℕ) (p : Plain) (m : Machine) (rec : LogRecord) (key : ℕ) (map : MapImage) → home m key ≡ None → free_place m key ≡ Some place → ArePages p m → AreLogs p m
     → AreLogs (logged n rec (with_map (map_of m key) map p)) (one (Use n (map_of m key) place (group_of key)) m)
 logs_used n place p m rec key map none free pages was = record {
-  tail = λ k. by_tail k;
+  tail = λ k. tail_longer n p m rec k (was.tail k);
   deeds = λ k. at_or_off (λ recs. AreLogged (first_record m k) recs (λ seat. m.records) (m.pending k)) n (p.live n ++ rec ∷ []) p.live k
       (λ same. subst (λ i. AreLogged (first_record m k) (p.live i ++ rec ∷ []) (λ seat. m.records) (m.pending k)) same (logged-longer (first_record m k) (p.live k) rec (λ seat. m.records) (m.pending k) (was.deeds k)))
       (λ other. was.deeds k);
@@ -171,13 +178,6 @@ logs_used n place p m rec key map none free pages was = record {
     kept : (o : Option Write) → IfSome o (λ w. home m w.key ≡ Some w.page) → IfSome o (λ w. home (one (Use n (map_of m key) place (group_of key)) m) w.key ≡ Some w.page)
     kept None here = tt
     kept (Some w) here = home_kept n (map_of m key) place (group_of key) m w.key count free (λ same. let never : None ≡ Some w.page = sym none ∙ ap (λ g. option_map (page_at m (g % m.shape.maps)) (position (is_used_by (record { 0 = g })) (m.entries (g % m.shape.maps)))) same ∙ here in cc) ∙ here
-
-    by_tail : (k : ℕ) → put n (m.tail n + 1) m.tail k ≡ first_record m k + length (put n (p.live n ++ rec ∷ []) p.live k)
-    by_tail k = by (k == n) refl
-      where
-        by : (b : Bool) → (k == n) ≡ b → put n (m.tail n + 1) m.tail k ≡ first_record m k + length (put n (p.live n ++ rec ∷ []) p.live k)
-        by true is = let same = eqb-true k n is in let old = was.tail k in let more = length-append (p.live k) (rec ∷ []) in rw is (subst (λ i. m.tail i + 1 ≡ first_record m k + length (p.live i ++ rec ∷ [])) same (omega (arith, old, more)))
-        by false is = rw is (was.tail k)
 
 pub locked_used : (n map place : ℕ) (g : GroupNo) (m : Machine) → AreLocked m → AreLocked (one (Use n map place g) m)
 locked_used n map place g m was = record { apart = was.apart; written = was.written }

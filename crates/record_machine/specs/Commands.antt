@@ -1,5 +1,5 @@
 -- What a command is answered, and what it does.
-use Rattle.std.specs.Prelude.{◌≡◌, ◌^◌, ◌++◌, ◌∷◌, [], ℕ, Bool, true, false, not, nat_le, nat_lt, List, Option, Some, None, take}
+use Rattle.std.specs.Prelude.{◌≡◌, ◌≤◌, ◌^◌, ◌++◌, ◌∷◌, [], ℕ, Bool, true, false, not, nat_le, nat_lt, List, Option, Some, None, length, take, unwrap_or}
 use Rattle.sd_base.specs.declared.device.NodeId.{NodeId}
 use Rattle.sd_base.specs.declared.names.Key.{Key}
 use Rattle.sd_base.specs.declared.names.TxnId.{TxnId}
@@ -12,7 +12,7 @@ use Rattle.script_text.specs.declared.command.Command.{Command}
 use Rattle.script_text.specs.declared.command.Command.TheVariants as asks
 use Rattle.script_text.specs.declared.reply.Reply.{Reply}
 use Rattle.script_text.specs.declared.reply.Reply.TheVariants as says
-use Rattle.record_machine.specs.Machine.{Machine, NodeMode, Idle, Up, Down, Redone, free_place, group_of, home, is_busy, map_of, new_home, room, seen}
+use Rattle.record_machine.specs.Machine.{Machine, NodeMode, Idle, Up, Down, Redone, free_place, group_of, home, is_busy, map_of, new_home, owed, room, seen, used}
 use Rattle.record_machine.specs.Parts.{Part, Start, Take, Begin, Use, Lock, Change, Seal, Unlock, dos}
 
 -- ---- refusals
@@ -75,18 +75,35 @@ at_limit m x = where_so (nat_le (2 ^ 63) (m.ident x)) (says.Limit (record { 0 = 
 abbrev pub no_room : Machine → NodeId → ℕ → Option Reply
 no_room m n need = where_so (nat_lt (room m n.0) need) (says.LogFull need (room m n.0))
 
--- the first reason why a write into the group's page can't be made: into the one that it has, or into the one that it gets
-abbrev pub no_page : Machine → NodeId → ℕ → Option Reply
-no_page m n key = of_group (home m key)
+-- the record with these bytes behind it, where an absent one counts as empty, and why it would be too long
+abbrev pub joined : Option (List ℕ) → List ℕ → List ℕ
+joined v bytes = unwrap_or v [] ++ bytes
+
+abbrev pub too_long : Option (List ℕ) → List ℕ → Option Reply
+too_long v bytes = where_so (nat_lt 248 (length (joined v bytes))) (says.TooLong (length (joined v bytes)))
+
+-- The first reason why a record can't be written into its group's page: into the one that it has, or into the one that
+-- it gets. What the value is refused for comes before the room of the log.
+abbrev pub no_page : Machine → NodeId → ℕ → Option Reply → Option Reply
+no_page m n key no_value = of_group (home m key)
   where
     -- the new page
     of_new : Option ℕ → Option Reply
     of_new None = Some (says.NoSpace (record { 0 = map_of m key }))
-    of_new (Some x) = first_of (at_limit m x ∷ no_room m n 3 ∷ [])
+    of_new (Some x) = first_of (at_limit m x ∷ no_value ∷ no_room m n 3 ∷ [])
 
     of_group : Option ℕ → Option Reply
-    of_group (Some x) = first_of (at_limit m x ∷ no_room m n 2 ∷ [])
+    of_group (Some x) = first_of (at_limit m x ∷ no_value ∷ no_room m n 2 ∷ [])
     of_group None = first_of (at_limit m (map_of m key) ∷ of_new (new_home m key) ∷ [])
+
+-- the first reason why the record of the key, if the transaction sees one, can't be deleted from its group's page
+abbrev pub no_deletion : Machine → TxnId → ℕ → Option Reply
+no_deletion m t key = of_record (seen m t key) (home m key)
+  where
+    of_record : Option (List ℕ) → Option ℕ → Option Reply
+    of_record None x = None
+    of_record (Some value) None = None
+    of_record (Some value) (Some x) = first_of (at_limit m x ∷ no_room m t.node 2 ∷ [])
 
 -- why a command is refused, if it is: the first of these reasons that there is. A line of a form that the store doesn't
 -- know yet is bad.
@@ -95,15 +112,15 @@ refusal m (asks.Format s) = Some says.Formatted
 refusal m (asks.Start n) = first_of (no_node m n ∷ not_idle m n ∷ [])
 refusal m (asks.Begin t) = first_of (no_node m t.node ∷ not_up m t.node ∷ busy m t ∷ no_room m t.node 2 ∷ [])
 refusal m (asks.Get t key) = first_of (no_node m t.node ∷ not_up m t.node ∷ no_txn m t ∷ no_lock m key t locks.Read ∷ [])
-refusal m (asks.Put t key value) = first_of (no_node m t.node ∷ not_up m t.node ∷ no_txn m t ∷ no_lock m key t locks.Write ∷ no_page m t.node key.0 ∷ [])
+refusal m (asks.Put t key value) = first_of (no_node m t.node ∷ not_up m t.node ∷ no_txn m t ∷ no_lock m key t locks.Write ∷ no_page m t.node key.0 None ∷ [])
 refusal m (asks.Commit t) = first_of (no_node m t.node ∷ not_up m t.node ∷ no_txn m t ∷ [])
 refusal m asks.Bad = Some says.Bad
-refusal m (asks.Append t key value) = Some says.Bad
-refusal m (asks.Del t key) = Some says.Bad
+refusal m (asks.Append t key bytes) = first_of (no_node m t.node ∷ not_up m t.node ∷ no_txn m t ∷ no_lock m key t locks.Write ∷ no_page m t.node key.0 (too_long (seen m t key.0) bytes) ∷ [])
+refusal m (asks.Del t key) = first_of (no_node m t.node ∷ not_up m t.node ∷ no_txn m t ∷ no_lock m key t locks.Write ∷ no_deletion m t key.0 ∷ [])
+refusal m (asks.Flush n) = first_of (no_node m n ∷ not_up m n ∷ [])
+refusal m (asks.Stat n) = no_node m n
 refusal m (asks.Abort t) = Some says.Bad
-refusal m (asks.Flush n) = Some says.Bad
 refusal m (asks.Dump n) = Some says.Bad
-refusal m (asks.Stat n) = Some says.Bad
 
 -- ---- what is done
 
@@ -120,16 +137,19 @@ target m key = or_new (home m key)
     or_new None = new_home m key
     or_new (Some x) = Some x
 
--- the pages that a command takes
+-- the pages that a write of the record takes, and those that a command takes
+abbrev pub takes_target : Machine → TxnId → Key → List Part
+takes_target m t key = takes_both m t.node.0 key.0 (target m key.0)
+
 abbrev pub takes : Machine → Command → List Part
 takes m (asks.Get t key) = takes_both m t.node.0 key.0 (home m key.0)
-takes m (asks.Put t key value) = takes_both m t.node.0 key.0 (target m key.0)
+takes m (asks.Put t key value) = takes_target m t key
+takes m (asks.Append t key bytes) = takes_target m t key
+takes m (asks.Del t key) = takes_both m t.node.0 key.0 (home m key.0)
 takes m asks.Bad = []
 takes m (asks.Format s) = []
 takes m (asks.Start n) = []
 takes m (asks.Begin t) = []
-takes m (asks.Append t key value) = []
-takes m (asks.Del t key) = []
 takes m (asks.Commit t) = []
 takes m (asks.Abort t) = []
 takes m (asks.Flush n) = []
@@ -153,53 +173,73 @@ abbrev pub writes : TxnId → ℕ → Option (List ℕ) → Option ℕ → List 
 writes t key value None = []
 writes t key value (Some x) = Change t (record { key = key; page = x; value = value }) ∷ []
 
+-- the record of the key gets this value, in its group's page or in the one that the group gets
+abbrev pub to_write : Machine → TxnId → Key → Option (List ℕ) → List Part
+to_write m t key value = takes_target m t key ++ uses m t.node.0 key.0 ++ Lock key t locks.Write ∷ writes t key.0 value (target m key.0)
+
+-- where the transaction sees a record, it becomes absent
+abbrev pub deletes : TxnId → ℕ → Option (List ℕ) → Option ℕ → List Part
+deletes t key None x = []
+deletes t key (Some value) x = writes t key None x
+
 -- what a command does that isn't refused, part by part
 abbrev pub parts : Machine → Command → List Part
 parts m (asks.Start n) = Start n.0 ∷ []
 parts m (asks.Begin t) = Begin t ∷ []
 parts m (asks.Get t key) = takes m (asks.Get t key) ++ Lock key t locks.Read ∷ []
-parts m (asks.Put t key value) = takes m (asks.Put t key value) ++ uses m t.node.0 key.0 ++ Lock key t locks.Write ∷ writes t key.0 (Some value) (target m key.0)
+parts m (asks.Put t key value) = to_write m t key (Some value)
+parts m (asks.Append t key bytes) = to_write m t key (Some (joined (seen m t key.0) bytes))
+parts m (asks.Del t key) = takes m (asks.Del t key) ++ Lock key t locks.Write ∷ deletes t key.0 (seen m t key.0) (home m key.0)
 parts m (asks.Commit t) = Seal t ∷ Unlock t ∷ []
 parts m asks.Bad = []
 parts m (asks.Format s) = []
-parts m (asks.Append t key value) = []
-parts m (asks.Del t key) = []
 parts m (asks.Abort t) = []
 parts m (asks.Flush n) = []
 parts m (asks.Dump n) = []
 parts m (asks.Stat n) = []
 
--- the reply to a command that isn't refused
+-- ---- the reply to a command that isn't refused
+
 abbrev pub found : Option (List ℕ) → Reply
 found None = says.Absent
 found (Some value) = says.Found value
 
-abbrev pub answer : Machine → Command → Reply
-answer m (asks.Get t key) = found (seen m t key.0)
-answer m asks.Bad = says.Fine
-answer m (asks.Format s) = says.Fine
-answer m (asks.Start n) = says.Fine
-answer m (asks.Begin t) = says.Fine
-answer m (asks.Put t key value) = says.Fine
-answer m (asks.Append t key value) = says.Fine
-answer m (asks.Del t key) = says.Fine
-answer m (asks.Commit t) = says.Fine
-answer m (asks.Abort t) = says.Fine
-answer m (asks.Flush n) = says.Fine
-answer m (asks.Dump n) = says.Fine
-answer m (asks.Stat n) = says.Fine
+abbrev pub deleted : Option (List ℕ) → Reply
+deleted None = says.Absent
+deleted (Some value) = says.Fine
+
+-- the reply tells what the node is; there is none yet that tells of a node which is redone
+abbrev pub TellsNode : Machine → ℕ → Reply → Type 0
+TellsNode m n r = by (m.mode n)
+  where
+    by : NodeMode → Type 0
+    by Idle = r ≡ says.StatIdle
+    by Up = r ≡ says.StatUp (used m n) (owed m n) (room m n)
+    by Down = r ≡ says.StatDown
+    by Redone = ⊥
+
+-- the reply tells of so many pages that were written: no more than a cache has
+abbrev pub TellsFlush : Reply → Type 0
+TellsFlush r = (count : ℕ) × (count ≤ 16) × (r ≡ says.Flushed count)
+
+abbrev pub MayAnswer : Machine → Command → Reply → Type 0
+MayAnswer m (asks.Get t key) r = r ≡ found (seen m t key.0)
+MayAnswer m (asks.Del t key) r = r ≡ deleted (seen m t key.0)
+MayAnswer m (asks.Flush n) r = TellsFlush r
+MayAnswer m (asks.Stat n) r = TellsNode m n.0 r
+MayAnswer m c r = r ≡ says.Fine
 
 -- ---- a step
 
 -- a refused command may have taken some of its pages
-pub record Stayed (m : Machine) (c : Command) (S : Machine → Type 0) : Type 0 where
+pub record Stayed (m : Machine) (pages : List Part) (S : Machine → Type 0) : Type 0 where
   pub count : ℕ
-  pub after : S (dos (take count (takes m c)) m)
+  pub after : S (dos (take count pages) m)
 
 -- From m the machine may answer a command so, and go on to a state of S.
 abbrev pub Step : Machine → Command → Reply → (Machine → Type 0) → Type 0
 Step m c r S = by (refusal m c)
   where
     by : Option Reply → Type 0
-    by None = (r ≡ answer m c) × S (dos (parts m c) m)
-    by (Some why) = (r ≡ why) × Stayed m c S
+    by None = MayAnswer m c r × S (dos (parts m c) m)
+    by (Some why) = (r ≡ why) × Stayed m (takes m c) S

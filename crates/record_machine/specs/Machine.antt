@@ -1,6 +1,6 @@
 -- The record machine: what a store means, as plain data.
-use Rattle.std.specs.Prelude.{◌==◌, ◌+◌, ◌-◌, ◌*◌, ◌/◌, ◌%◌, ◌^◌, ◌&&◌, ℕ, Bool, false, List, [], Option, Some, None, is_none, option_map, fold, length, min, replicate, if◌then◌else◌}
-use Rattle.std.specs.List.{list_any, position}
+use Rattle.std.specs.Prelude.{◌==◌, ◌+◌, ◌-◌, ◌*◌, ◌/◌, ◌%◌, ◌^◌, ◌&&◌, ℕ, Bool, false, not, List, [], ◌∷◌, Option, Some, None, is_none, is_some, option_map, filter, fold, length, min, replicate, if◌then◌else◌}
+use Rattle.std.specs.List.{count_by, list_any, position, range_with_len, sum_by}
 use Rattle.std.specs.FinMap as finite
 use Rattle.sd_base.specs.declared.names.GroupNo.{GroupNo}
 use Rattle.sd_base.specs.declared.names.TxnId.{TxnId}
@@ -120,6 +120,47 @@ is_begin_in seat d = d.seat == seat && is_none d.write
 
 abbrev pub is_busy : Machine → TxnId → Bool
 is_busy m t = list_any (is_begin_in t.seat) (m.pending t.node.0)
+
+-- ---- what an abort takes back
+
+-- a write of the seat
+abbrev pub is_write_in : ℕ → Deed → Bool
+is_write_in seat d = d.seat == seat && is_some d.write
+
+-- the newest one, where these deeds are behind it
+abbrev pub is_newest_in : ℕ → Deed → List Deed → Bool
+is_newest_in seat d behind = is_write_in seat d && not (list_any (is_write_in seat) behind)
+
+-- the newest write of a seat, if it has one
+abbrev pub newest_in : ℕ → List Deed → Option Deed
+newest_in seat [] = None
+newest_in seat (d ∷ ds) = if is_newest_in seat d ds then Some d else newest_in seat ds
+
+-- the deeds but for that one
+abbrev pub without_newest : ℕ → List Deed → List Deed
+without_newest seat [] = []
+without_newest seat (d ∷ ds) = if is_newest_in seat d ds then ds else d ∷ without_newest seat ds
+
+-- of a transaction: its newest write, all its writes, and all that it has done
+abbrev pub newest_of : Machine → TxnId → Option Deed
+newest_of m t = newest_in t.seat (m.pending t.node.0)
+
+abbrev pub writes_of : Machine → TxnId → List Deed
+writes_of m t = filter (is_write_in t.seat) (m.pending t.node.0)
+
+abbrev pub deeds_of : Machine → TxnId → List Deed
+deeds_of m t = filter (λ d. d.seat == t.seat) (m.pending t.node.0)
+
+-- how many writes of a page the open transactions have made, each of which may still be taken back
+abbrev pub writes_page : ℕ → Deed → Bool
+writes_page x d = is_of d.write
+  where
+    is_of : Option Write → Bool
+    is_of None = false
+    is_of (Some w) = w.page == x
+
+abbrev pub open_writes : Machine → ℕ → ℕ
+open_writes m x = sum_by (λ n. count_by (writes_page x) (m.pending n)) (range_with_len 1 m.shape.nodes)
 
 -- ---- the room of a log
 

@@ -1,5 +1,5 @@
 -- What the logs and the pages of a store mean to the machine.
-use Rattle.std.specs.Prelude.{◌≡◌, ◌≢◌, ◌==◌, ◌&&◌, ◌+◌, ◌*◌, ◌%◌, ◌≤◌, ◌<◌, ◌++◌, ⊤, ℕ, Bool, true, false, List, [], ◌∷◌, Option, Some, None, All, IfSome, length, map, replicate, unwrap_or, slice_index_or, slice_set}
+use Rattle.std.specs.Prelude.{◌≡◌, ◌≢◌, ◌==◌, ◌&&◌, ◌+◌, ◌*◌, ◌%◌, ◌^◌, ◌≤◌, ◌<◌, ◌++◌, ⊤, ℕ, Bool, true, false, List, [], ◌∷◌, Option, Some, None, All, IfSome, length, map, replicate, unwrap_or, slice_index_or, slice_set}
 use Rattle.std.specs.List.{list_any}
 use Rattle.sd_base.specs.Shape.{IsShape}
 use Rattle.sd_base.specs.declared.names.GroupNo.{GroupNo}
@@ -17,7 +17,7 @@ use Rattle.compensation.specs.Inverse.{IsMarked, content}
 use Rattle.compensation.specs.Finding.{record_at}
 use Rattle.record_locks.specs.declared.mode.Mode.TheVariants as locks
 use Rattle.record_locks.specs.Held.{IsCompatible, mode_of}
-use Rattle.record_machine.specs.Machine.{Deed, Machine, Write, home, page_at, put, seen, written}
+use Rattle.record_machine.specs.Machine.{Deed, Machine, Write, home, open_writes, page_at, put, seen, written}
 
 -- The logs and pages of a store as they are at present, with all that is in memory alone: the records that each node has
 -- logged since the start of its log, each map page, and each data page in its present life.
@@ -104,11 +104,16 @@ pub record AreLogs (p : Plain) (m : Machine) : Type 0 where
   -- what is written stands in the page of the key's group
   pub homes : (t : TxnId) → All (λ d. IfSome d.write (λ w. home m w.key ≡ Some w.page)) (m.pending t.node.0)
 
+-- each data page has room for the changes that take back what open transactions have written of it
+abbrev pub AreBelowTop : Machine → Type 0
+AreBelowTop m = (x : ℕ) → m.shape.maps ≤ x → x < 253 * m.shape.maps → m.ident x + open_writes m x ≤ 2 ^ 63 + 2 ^ 40
+
 -- The logs, the pages and the locks of a store mean this state of the machine.
 pub record Means (p : Plain) (m : Machine) : Type 0 where
   pub pages : ArePages p m
   pub logs : AreLogs p m
   pub locked : AreLocked m
+  pub tops : AreBelowTop m
 
 -- one record more in the log of a node, and another page
 abbrev pub logged : ℕ → LogRecord → Plain → Plain

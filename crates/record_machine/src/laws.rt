@@ -1,4 +1,4 @@
-ghost use Rattle.std.specs.Prelude.{◌≡◌, ◌%◌, ℕ, false, List, Option, Some, None, IfSome, IsTrue};
+ghost use Rattle.std.specs.Prelude.{◌≡◌, ◌≢◌, ◌+◌, ◌*◌, ◌%◌, ◌^◌, ◌≤◌, ◌<◌, ◌++◌, ◌∷◌, [], ℕ, false, List, Option, Some, None, IfSome, IsSome, IsTrue, length, replicate};
 ghost use Rattle.sd_base.specs.Shape.{IsShape};
 ghost use Rattle.sd_base.specs.declared.names.Key.{Key};
 ghost use Rattle.sd_base.specs.declared.names.TxnId.{TxnId};
@@ -8,14 +8,15 @@ ghost use Rattle.space_map.specs.Image.{MapImage};
 ghost use Rattle.log_record.specs.declared.record.LogRecord.{LogRecord};
 ghost use Rattle.log_record.specs.declared.record.LogRecord.TheVariants.{Begin};
 ghost use Rattle.compensation.specs.Inverse.{content};
+ghost use Rattle.compensation.specs.Finding.{record_at};
 ghost use Rattle.record_locks.specs.declared.mode.Mode.{Mode};
 ghost use Rattle.record_locks.specs.declared.mode.Mode.TheVariants as locks;
 ghost use Rattle.record_locks.specs.Answer.{lock_answer, may_take};
 ghost use Rattle.record_locks.specs.Held.{mode_of};
-ghost use Rattle.record_machine.specs.Machine.{Machine, Write, formatted, free_place, group_of, home, map_of, seen};
+ghost use Rattle.record_machine.specs.Machine.{Deed, Machine, Write, deeds_of, formatted, free_place, group_of, home, map_of, newest_of, owed, seen, writes_of};
 ghost use Rattle.record_machine.specs.Parts as part;
-ghost use Rattle.record_machine.specs.Parts.{one};
-ghost use Rattle.record_machine.specs.Meaning.{IsChangedAt, IsUsed, Means, Plain, Tells, born, has_written, logged, with_map, with_page};
+ghost use Rattle.record_machine.specs.Parts.{dos, one};
+ghost use Rattle.record_machine.specs.Meaning.{IsChangedAt, IsUsed, Means, Plain, Tells, born, first_record, has_written, logged, with_map, with_page};
 
 /// A store means the machine's first state when it is formatted.
 pub fn law_of_formatted_stores()
@@ -39,8 +40,27 @@ pub fn law_of_parts()
         → Means p m → Means (logged n rec (with_map (map_of m key) map p)) (one (part.Use n (map_of m key) place (group_of key)) m) }
     ensures lock { (p : Plain) (m : Machine) (key : Key) (t : TxnId) (mode : Mode) → IsTrue (may_take (lock_answer m.locks key t mode)) → Means p m → Means p (one (part.Lock key t mode) m) }
     ensures change { (p : Plain) (m : Machine) (t : TxnId) (w : Write) (rec : LogRecord) (v : PageView) → home m w.key ≡ Some w.page → mode_of m.locks (record { 0 = w.key }) t ≡ Some locks.Write → Tells rec w (seen m t w.key) → IsChangedAt (w.key % 16) w.value (p.pages w.page) v
+        → m.ident w.page < 2 ^ 63 → ((n : ℕ) → 1 ≤ n → n ≤ m.shape.nodes → owed m n ≤ 6 * m.shape.ring)
         → Means p m → Means (logged t.node.0 rec (with_page w.page v p)) (one (part.Change t w) m) }
+    ensures back { (p : Plain) (m : Machine) (t : TxnId) (d : Deed) (w : Write) (rec : LogRecord) (v : PageView) → newest_of m t ≡ Some d → d.write ≡ Some w → 1 ≤ t.node.0 → t.node.0 ≤ m.shape.nodes → IsChangedAt (w.key % 16) (seen (one (part.Back t) m) t w.key) (p.pages w.page) v
+        → Means p m → Means (logged t.node.0 rec (with_page w.page v p)) (one (part.Back t) m) }
     ensures seal { (p : Plain) (m : Machine) (t : TxnId) (rec : LogRecord) → Means p m → Means (logged t.node.0 rec p) (one (part.Seal t) m) }
     ensures sealed { (m : Machine) (t : TxnId) (key : ℕ) → has_written (one (part.Seal t) m) t key ≡ false }
     ensures unlock { (p : Plain) (m : Machine) (t : TxnId) → ((key : ℕ) → has_written m t key ≡ false) → Means p m → Means p (one (part.Unlock t) m) }
+{}
+
+/// What an abort takes back, one write after the other and the newest first: where its record stands,
+/// that its page has room for one change more, what the log tells of it, and what is left. Where all are
+/// taken back, nothing is left.
+pub fn law_of_aborts()
+    ensures written { (m : Machine) (t : TxnId) (d : Deed) → newest_of m t ≡ Some d → IsSome d.write }
+    ensures home { (p : Plain) (m : Machine) (t : TxnId) (d : Deed) (w : Write) → newest_of m t ≡ Some d → d.write ≡ Some w → Means p m → home m w.key ≡ Some w.page }
+    ensures room { (p : Plain) (m : Machine) (t : TxnId) (d : Deed) (w : Write) → newest_of m t ≡ Some d → d.write ≡ Some w → 1 ≤ t.node.0 → t.node.0 ≤ m.shape.nodes → Means p m → m.ident w.page < 2 ^ 63 + 2 ^ 40 }
+    ensures backs_seen { (p : Plain) (m : Machine) (t : TxnId) (d : Deed) (w : Write) → newest_of m t ≡ Some d → d.write ≡ Some w → Means p m → (rec : LogRecord) × (record_at (first_record m t.node.0) (p.live t.node.0) d.number ≡ Some rec) × Tells rec w (seen (one (part.Back t) m) t w.key) }
+    ensures length { (m : Machine) (t : TxnId) (d : Deed) → newest_of m t ≡ Some d → owed m t.node.0 ≡ owed (one (part.Back t) m) t.node.0 + 1 }
+    ensures left { (m : Machine) (t : TxnId) (d : Deed) → newest_of m t ≡ Some d → writes_of m t ≡ writes_of (one (part.Back t) m) t ++ d ∷ [] }
+    ensures others { (m : Machine) (t u : TxnId) → u ≢ t → deeds_of (one (part.Back t) m) u ≡ deeds_of m u }
+    ensures no_more { (m : Machine) (t : TxnId) (key : ℕ) → newest_of m t ≡ None → has_written m t key ≡ false }
+    ensures all_back { (m : Machine) (t : TxnId) (key : ℕ) → has_written (dos (replicate (length (writes_of m t)) (part.Back t)) m) t key ≡ false }
+    ensures undone { (m : Machine) (t : TxnId) (key : ℕ) → (one (part.Seal t) (dos (replicate (length (writes_of m t)) (part.Back t)) m)).records key ≡ m.records key }
 {}

@@ -19,12 +19,10 @@ mod write;
 
 pub use command::Command;
 pub use lines::law_of_one_splitting;
-pub use numbers::read_number;
 pub use read::{law_of_one_reading, law_of_short_lines, read_line};
 pub use reply::Reply;
-pub use spelling::{law_of_one_spelling, read_value};
-pub use text::{ReplyText, put_number, put_spelled, put_text};
-pub use words::cut;
+pub use spelling::law_of_one_spelling;
+pub use text::ReplyText;
 pub use write::write_reply;
 
 #[cfg(test)]

@@ -58,7 +58,11 @@ AnswersShut disk vault seal (asks.Start n) reply = reply ≡ says.Closed
 AnswersShut disk vault seal (asks.Begin t) reply = reply ≡ says.Closed
 AnswersShut disk vault seal (asks.Get t key) reply = reply ≡ says.Closed
 AnswersShut disk vault seal (asks.Put t key value) reply = reply ≡ says.Closed
+AnswersShut disk vault seal (asks.Append t key bytes) reply = reply ≡ says.Closed
+AnswersShut disk vault seal (asks.Del t key) reply = reply ≡ says.Closed
 AnswersShut disk vault seal (asks.Commit t) reply = reply ≡ says.Closed
+AnswersShut disk vault seal (asks.Flush n) reply = reply ≡ says.Closed
+AnswersShut disk vault seal (asks.Stat n) reply = reply ≡ says.Closed
 AnswersShut disk vault seal command reply = reply ≡ says.Bad
 
 -- and the state after it
@@ -74,7 +78,10 @@ MayStop (asks.Start n) = ⊤
 MayStop (asks.Begin t) = ⊤
 MayStop (asks.Get t key) = ⊤
 MayStop (asks.Put t key value) = ⊤
+MayStop (asks.Append t key bytes) = ⊤
+MayStop (asks.Del t key) = ⊤
 MayStop (asks.Commit t) = ⊤
+MayStop (asks.Flush n) = ⊤
 MayStop command = ⊥
 
 -- what a command may be answered, with the states after it: where the node didn't stop, what the machine answers
@@ -89,7 +96,11 @@ AnswersStopped (asks.Start n) reply = ⊤
 AnswersStopped (asks.Begin t) reply = ⊤
 AnswersStopped (asks.Get t key) reply = ⊤
 AnswersStopped (asks.Put t key value) reply = ⊤
+AnswersStopped (asks.Append t key bytes) reply = ⊤
+AnswersStopped (asks.Del t key) reply = ⊤
 AnswersStopped (asks.Commit t) reply = ⊤
+AnswersStopped (asks.Flush n) reply = ⊤
+AnswersStopped (asks.Stat n) reply = ⊤
 AnswersStopped command reply = reply ≡ says.Bad
 
 -- ---- a run

@@ -82,14 +82,12 @@ impl Store {
             | Command::Begin(_)
             | Command::Get(..)
             | Command::Put(..)
-            | Command::Commit(_) => Reply::Closed,
-            Command::Bad
             | Command::Append(..)
             | Command::Del(..)
-            | Command::Abort(_)
+            | Command::Commit(_)
             | Command::Flush(_)
-            | Command::Dump(_)
-            | Command::Stat(_) => Reply::Bad,
+            | Command::Stat(_) => Reply::Closed,
+            Command::Bad | Command::Abort(_) | Command::Dump(_) => Reply::Bad,
         }
     }
 

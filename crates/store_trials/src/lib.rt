@@ -16,6 +16,8 @@ pub use device::{Faults, FaultyDisk};
 pub use streams::{Script, Transcript};
 
 #[cfg(test)]
+mod change_tests;
+#[cfg(test)]
 mod client_tests;
 #[cfg(test)]
 mod command_tests;

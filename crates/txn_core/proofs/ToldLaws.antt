@@ -9,7 +9,7 @@ use Rattle.log_record.specs.Fields.{fields_of}
 use Rattle.compensation.specs.Left.{is_update_of, next_after, takes_back, uncompensated}
 use Rattle.compensation.specs.Finding.{TellsLeft, left_at, newest, next_behind, next_to_undo, record_at, record_before}
 use Rattle.compensation.proofs.LeftLaws.{here, left-update, left-other, update_not_compensation, compensation_not_update}
-use Rattle.compensation.proofs.FindingLaws.{TellsLeft-update, TellsLeft-taken_back, TellsLeft-other, found-update, found-compensation, left-taken_back, left_at-begin}
+use Rattle.compensation.proofs.FindingLaws.{TellsLeft-update, TellsLeft-taken_back, TellsLeft-other, found-update, found-compensation, left-taken_back, left_at-begin, left_behind, update_left}
 use Rattle.txn_core.specs.Seats.{OpenTxn}
 use Rattle.txn_core.specs.Told.{IsChained, IsOpenIn, IsRecordOf, NamesEarlier}
 use Rattle.compensation.proofs.LogRecords.{at_place, of_place, below_end, record_at-push, record_at-last, old_or_new, left_at-push, left_at-last, other_txn, next_of_update, next_of_compensation}
@@ -340,3 +340,28 @@ next_is_none t first recs rec names was at is = by (last_tells t first recs rec 
     by (inl none) = none.1
     by (inr (inl begin)) = begin.1
     by (inr (inr up)) = let never : None ≡ Some up.0 = sym is ∙ up.1 in cc
+
+-- behind an update that is left there comes the newest that is left before it, or where none is, the record that began the
+-- transaction
+pub next_before_is : (t : OpenTxn) (first : ℕ) (recs : List LogRecord) (newer : List ℕ) (u : ℕ) (before : List ℕ) (rec : LogRecord) → NamesEarlier first recs → IsOpenIn first recs t → uncompensated t.begin first recs ≡ newer ++ u ∷ before → record_at first recs u ≡ Some rec
+    → ((next_behind t.begin first recs rec ≡ t.begin) × (newest before ≡ None))
+    ⊎ ((update : LogRecord) × (record_at first recs (next_behind t.begin first recs rec) ≡ Some update) × (is_update_of t.begin update ≡ true) × (t.begin < next_behind t.begin first recs rec) × (next_behind t.begin first recs rec < u) × (newest before ≡ Some (next_behind t.begin first recs rec)))
+next_before_is t first recs newer u before rec names was left at = by (next_behind_is t.begin first recs rec u was.chained own)
+  where
+    next : ℕ
+    next = next_behind t.begin first recs rec
+
+    own : IsOwn t.begin first recs (record_before rec) u
+    own =
+        let place = at_place first recs u rec at in
+        let old = was.chained.update (u - first) rec place.1 (update_left t.begin first recs newer u before rec left at) in
+        let sooner = old.3 in
+        (old.0, old.1, old.2, omega (arith, sooner, place.0))
+
+    kept : left_at t.begin first recs next ≡ before
+    kept = left_behind t.begin first recs newer u before rec was.tells left at
+
+    by : IsNext t.begin first recs next u
+        → ((next ≡ t.begin) × (newest before ≡ None)) ⊎ ((update : LogRecord) × (record_at first recs next ≡ Some update) × (is_update_of t.begin update ≡ true) × (t.begin < next) × (next < u) × (newest before ≡ Some next))
+    by (inl begin) = inl (begin, ap newest (sym kept ∙ ap (left_at t.begin first recs) begin ∙ nothing_at_begin t.begin first recs names was.chained.begun))
+    by (inr up) = inr (up.0, up.1, up.2, up.3, up.4, ap newest (sym kept) ∙ found_at t.begin first recs next up.0 was.tells up.1 up.2)

@@ -1,18 +1,20 @@
 -- The update that is to be taken back next, where the records tell the transaction.
-use Rattle.std.specs.Prelude.{◌≡◌, ◌≢◌, ◌⊎◌, ◌≤◌, ◌<◌, ◌-◌, ◌*◌, ◌==◌, ℕ, Bool, true, false, [], ◌∷◌, List, Option, Some, None, IfSome, is_some, length, nat_lt, not, if◌then◌else◌, refl}
+use Rattle.std.specs.Prelude.{◌≡◌, ◌≢◌, ◌⊎◌, ◌≤◌, ◌<◌, ◌-◌, ◌*◌, ◌==◌, ◌++◌, ℕ, Bool, true, false, [], ◌∷◌, List, Option, Some, None, IfSome, is_some, length, nat_lt, not, if◌then◌else◌, refl}
 use Rattle.std.proofs.Common.{arith, inl, inr, ap, subst, sym, ◌∙◌}
 use Rattle.std.specs.Bool.{beq}
 use Rattle.std.proofs.lemmas.Bool.{eqb-true, eq-eqb}
 use Rattle.std.proofs.lemmas.Bool.Decides.{nat_tests}
 use Rattle.log_record.specs.declared.record.LogRecord.{LogRecord}
+use Rattle.log_record.specs.declared.record.LogRecord.TheVariants.{Begin, Set, Append, Commit, Abort, Restore, Cut, MapUse, MapFree}
+use Rattle.log_record.specs.Record.{page_op_of}
 use Rattle.compensation.specs.Left.{is_update_of, next_after, uncompensated}
-use Rattle.compensation.specs.Finding.{newest, next_to_undo, record_at}
+use Rattle.compensation.specs.Finding.{newest, next_behind, next_to_undo, record_at}
 use Rattle.txn_core.specs.Seats.{OpenTxn, SeatsState, txn_in}
 use Rattle.txn_core.specs.Told.{AreTold, IsOpenIn, IsRecordOf, NamesEarlier}
 use Rattle.txn_core.specs.Undo.{but_for, to_undo}
 use Rattle.compensation.proofs.LogRecords.{at_place, next_of_compensation, next_of_update}
 use Rattle.txn_core.proofs.SeatLaws.{busy_below}
-use Rattle.txn_core.proofs.ToldLaws.{left_is_update, next_is_begin, next_is_none, next_is_update}
+use Rattle.txn_core.proofs.ToldLaws.{left_is_update, next_before_is, next_is_begin, next_is_none, next_is_update}
 
 -- what the option says
 by_next : (t : ℕ) (o : Option ℕ) → but_for t o ≡ None → (o ≡ None) ⊎ (o ≡ Some t)
@@ -109,3 +111,28 @@ undo_within t first recs rec n was at some =
           | inl begin ↦ absurd (is.1 (n_is ∙ begin))
           | inr up ↦ (omega (arith, up.3, n_is), omega (arith, up.4, n_is, place.0))
         ]
+
+-- ---- what is taken back after an update
+
+-- the number that the update's record leads to, where it is in the seat's transaction
+pub walk : (s : SeatsState) (start seat : ℕ) (t : OpenTxn) (recs : List LogRecord) (newer : List ℕ) (u : ℕ) (before : List ℕ) (rec : LogRecord) (next : ℕ) → AreTold s start recs → txn_in s seat ≡ Some t → uncompensated t.begin (6 * start) recs ≡ newer ++ u ∷ before → record_at (6 * start) recs u ≡ Some rec → next ≡ next_behind t.begin (6 * start) recs rec
+    → ((next ≡ t.begin) × (before ≡ []))
+    ⊎ ((update : LogRecord) × (record_at (6 * start) recs next ≡ Some update) × (is_update_of t.begin update ≡ true) × (t.begin < next) × (next < u) × (newest before ≡ Some next))
+walk s start seat t recs newer u before rec next told busy left at is =
+    subst (λ n. ((n ≡ t.begin) × (before ≡ [])) ⊎ ((update : LogRecord) × (record_at (6 * start) recs n ≡ Some update) × (is_update_of t.begin update ≡ true) × (t.begin < n) × (n < u) × (newest before ≡ Some n))) (sym is)
+    (elim (next_before_is t (6 * start) recs newer u before rec told.names (seat_told s start seat t recs told busy) left at) [
+      | inl begin ↦ inl (begin.0, none_left before begin.1)
+      | inr up ↦ inr up
+    ])
+
+-- an update has a page
+pub page_of_update : (t : ℕ) (rec : LogRecord) → is_update_of t rec ≡ true → page_op_of rec ≡ None → ⊥
+page_of_update t Begin is none = cc
+page_of_update t (Set txn prev page bsi slot before after) is none = cc
+page_of_update t (Append txn prev page bsi slot present len bytes) is none = cc
+page_of_update t (Commit txn prev) is none = cc
+page_of_update t (Abort txn prev) is none = cc
+page_of_update t (Restore txn prev next page bsi slot after) is none = cc
+page_of_update t (Cut txn prev next page bsi slot present len) is none = cc
+page_of_update t (MapUse page bsi place group) is none = cc
+page_of_update t (MapFree page bsi place group ident) is none = cc

@@ -25,10 +25,9 @@ ghost use Rattle.txn_core.specs.Told.{AreTold, HasRecords};
 ghost use Rattle.txn_core.specs.Undo.{IsPageOf, IsToUndo, TakesBack, compensation_of};
 ghost use Rattle.txn_core.specs.Updates.{ChangesPage, HasPage};
 
-use crate::reading::read_record;
 use crate::seats::{Open, Seats};
-use crate::undoing::damaged;
-use compensation::{next_after, record_before, take_back};
+use crate::undoing::{damaged, next_behind};
+use compensation::take_back;
 use frame_pool::Pool;
 use log_record::{LogRecord, page_op};
 use node_cache::NodeCache;
@@ -94,44 +93,6 @@ fn answer(pool: &Pool, c: &NodeCache, txn: Open, next: u64, update: &LogRecord) 
     };
     let ident = ident_before(pool, c, page)?;
     compensation(txn, next, ident, update)
-}
-
-/// What a compensation of this update says is next: the record before it or, where that one is a
-/// compensation too, what that one says is next.
-///
-/// It answers `Damaged` where the log doesn't hold what the transaction has logged.
-fn next_behind<D: Disk>(
-    disk: &mut D,
-    c: &NodeCache,
-    txn: Open,
-    update: &LogRecord,
-) -> Result<u64, DevFault>
-    requires legal { IsLegal update.now }
-    requires from { 6 * c.now.log.start ≤ txn.begin }
-    requires below { txn.last < c.now.log.tail }
-    requires log_tie { IsTiedToLog c.now }
-    requires live { (D.state disk.old).live c.now.node.0 ≡ true }
-    requires reach { IsInReach (region c.now.log) (D.state disk.old).reach }
-    ensures keeps { Keeps c.now.node.0 (D.state disk.old) (D.state disk.new) }
-    ensures cause { IfErr result (λ fault. Caused fault (D.state disk.old) (D.state disk.new)) }
-    ensures fault { IfErr result (IsLogFault (region c.now.log) c.now.node.0) }
-    ensures live { StaysLive result ((D.state disk.new).live c.now.node.0 ≡ true) }
-    ensures stopped { IfErr result (λ fault. OnStop fault ((D.state disk.new).live c.now.node.0 ≡ false)) }
-    ensures outcomes { IsTrue D.told → Narrows (D.state disk.old).block (D.state disk.new).block }
-    ensures writers { IsTrue D.told → NoNewWriter (D.state disk.old).block (D.state disk.new).block }
-    ensures foreign { IsTrue D.told → KeepsForeign c.now.node.0 (D.state disk.old).block (D.state disk.new).block }
-    ensures blocks { IsTrue D.told → StaysLive result ((D.state disk.new).block ≡ (D.state disk.old).block) }
-    ensures still { IfErr result (λ fault. OnStop fault (IsTrue D.told → IsFreeRegion (region c.now.log) c.now.node.0 (D.state disk.old).block → IsStill (region c.now.log) (D.state disk.new).block)) }
-    ensures number { IfOk result IsRecordNo }
-    ensures next { IfOk result (λ next. IsTrue D.told → (recs : List LogRecord) → HasRecords c.now.log (D.state disk.old).block recs → next ≡ next_behind txn.begin (6 * c.now.log.start) recs update.now) }
-    ensures there { IsTrue D.told → (recs : List LogRecord) → HasRecords c.now.log (D.state disk.old).block recs → txn.begin ≤ record_before update.now → record_before update.now ≤ txn.last → IfErr result (IsStopOf c.now.node.0) }
-{
-    let before = record_before(update);
-    if before < txn.begin || before > txn.last {
-        return Err(damaged(c, txn.last));
-    }
-    let rec = read_record(disk, c.log(), before)?;
-    Ok(next_after(&rec, txn.begin).unwrap_or(before))
 }
 
 impl Seats {

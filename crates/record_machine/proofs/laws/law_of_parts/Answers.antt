@@ -1,5 +1,5 @@
 use Rattle.record_machine.proofs.SealSteps.{sealed_own}
-use Rattle.record_machine.proofs.Steps.{means_begun, means_changed, means_locked, means_sealed, means_unlocked, means_used}
+use Rattle.record_machine.proofs.Steps.{means_back, means_begun, means_changed, means_locked, means_sealed, means_unlocked, means_used}
 use Rattle.record_machine.proofs.laws.law_of_parts.Goals as goal
 
 pub returns-clause-begun : goal.returns-clause-begun
@@ -13,6 +13,9 @@ returns-clause-lock c = means_locked
 
 pub returns-clause-change : goal.returns-clause-change
 returns-clause-change c = means_changed
+
+pub returns-clause-back : goal.returns-clause-back
+returns-clause-back c = means_back
 
 pub returns-clause-seal : goal.returns-clause-seal
 returns-clause-seal c = means_sealed

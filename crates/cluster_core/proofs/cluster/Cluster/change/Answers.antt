@@ -6,6 +6,7 @@ use Rattle.txn_core.specs.Seats.{OpenTxn, is_busy, txn_in}
 use Rattle.txn_core.specs.Updates.{FitsSlotOf, HasPage}
 use Rattle.cluster_core.specs.declared.node.Node.TheVariants.{Up}
 use Rattle.cluster_core.specs.Cluster.{CanEnd, IsCluster}
+use Rattle.cluster_core.specs.Footprint.{NarrowsBesides}
 use Rattle.cluster_core.specs.Ports.{OnUp}
 use Rattle.cluster_core.specs.Shows.{ShowsNode, ShowsStore}
 use Rattle.cluster_core.proofs.CachedImages.{data_shown}
@@ -16,7 +17,8 @@ use Rattle.cluster_core.proofs.PageChanged.{cluster_changed}
 use Rattle.cluster_core.proofs.ShownLogged.{length_shown}
 use Rattle.cluster_core.proofs.ShownUpdate.{busy_txn, means_updated, up_updated}
 use Rattle.cluster_core.proofs.Fetching.{never}
-use Rattle.cluster_core.proofs.Footprints.{not_full}
+use Rattle.cluster_core.proofs.Footprints.{besides_still, log_besides, not_full}
+use Rattle.cluster_core.proofs.InMemory.{owes_few}
 use Rattle.cluster_core.proofs.cluster.Cluster.change.Given as given
 use Rattle.cluster_core.proofs.cluster.Cluster.change.Goals as goal
 
@@ -61,10 +63,11 @@ returns-in-Ok-clause-shows g c = λ told m w here page slot lock value was.
     let same : old.0 ≡ p.pages c.args.x.0 = data_shown c.self.inside.shape p c.self.inside.shared.pool c.in-Up.cache.pages c.args.x old.0 (living c.self.inside.shape p m view.shape view.means.pages) place.0 place.1 shown.1.cached old.1 in
     let has : HasPage c.self.inside.shared.pool c.in-Up.cache.pages c.args.x (p.pages c.args.x.0) = subst (HasPage c.self.inside.shared.pool c.in-Up.cache.pages c.args.x) same old.1 in
     let count = has.shows.text.image.slots in
-    let few = c.requires.slot in (
+    let few = c.requires.slot in
+    let owes = owes_few c.self.inside.shape c.self.inside.shared.pool c.in-Up.cache c.in-Up.seats (g.D.Disk.state c.args.disk.now).block p m is.is.store.shape view.shape is.one is.is.tie is.is.eight shown.1 in (
       _,
       record {
-        means = means_updated p m c.args.t w txn.0 c.args.x c.args.slot c.args.what.now c.requires.node here page slot lock value has.number (omega (arith, few, count)) (subst (λ v. FitsSlotOf v c.args.slot c.args.what.now) same old.3) view.means;
+        means = means_updated p m c.args.t w txn.0 c.args.x c.args.slot c.args.what.now c.requires.node here page slot lock value has.number (subst (λ v. v.ident < 2 ^ 63) same old.2) owes (omega (arith, few, count)) (subst (λ v. FitsSlotOf v c.args.slot c.args.what.now) same old.3) view.means;
         shape = view.shape;
         locks = view.locks;
         reopening = view.reopening;
@@ -86,3 +89,21 @@ pub returns-clause-memory : goal.returns-clause-memory
 returns-clause-memory g c = λ room.
     let fits : c.in-Up.cache.log.tail % 6 + 1 < 6 = subst (λ n. OnUp n (λ d seats. d.log.tail % 6 + 1 < 6)) c.in-Up.is (subst (λ v. OnUp v.node (λ d seats. d.log.tail % 6 + 1 < 6)) (sym c.self.view_is) room) in
     absurd (never c.change-done.result c.in-Err.fault (c.change-done.ensures.sure (not_full c.in-Up.cache.log.tail fits)) c.in-Err.is)
+
+-- ---- the outcomes
+
+pub returns-in-Ok-clause-besides : goal.returns-in-Ok-clause-besides
+returns-in-Ok-clause-besides g c = λ told.
+    let is : IsCluster c.self.inside.shape c.self.inside.shared.pool c.self.inside.shared.owners (Up c.in-Up.cache c.in-Up.seats) = subst (IsCluster c.self.inside.shape c.self.inside.shared.pool c.self.inside.shared.owners) c.in-Up.is c.self.invariant in
+    let a = (g.D.Disk.state c.args.disk.now).block in
+    let b = (g.D.Disk.state c.change-done.new.disk).block in
+    subst (λ v. NarrowsBesides v.shape a b) c.self.view_is (log_besides c.self.inside.shape c.in-Up.cache a b is.one is.is.store is.is.log_tie (c.change-done.ensures.outcomes told))
+
+pub returns-clause-besides : goal.returns-clause-besides
+returns-clause-besides g c = λ told.
+    let is : IsCluster c.self.inside.shape c.self.inside.shared.pool c.self.inside.shared.owners (Up c.in-Up.cache c.in-Up.seats) = subst (IsCluster c.self.inside.shape c.self.inside.shared.pool c.self.inside.shared.owners) c.in-Up.is c.self.invariant in
+    let s = c.self.inside.shape in
+    let a = (g.D.Disk.state c.args.disk.now).block in
+    let b = (g.D.Disk.state c.change-done.new.disk).block in
+    let d = (g.D.Disk.state c.give_up.new.disk).block in
+    subst (λ v. NarrowsBesides v.shape a d) c.self.view_is (besides_still s a b d (log_besides s c.in-Up.cache a b is.one is.is.store is.is.log_tie (c.change-done.ensures.outcomes told)) (c.give_up.ensures.outcomes told))

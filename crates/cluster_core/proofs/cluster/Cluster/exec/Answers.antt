@@ -5,16 +5,17 @@ use Rattle.record_machine.specs.Machine.{Machine}
 use Rattle.cluster_core.specs.Known.{known}
 use Rattle.cluster_core.specs.Ports.{says_stop}
 use Rattle.cluster_core.specs.Shows.{IsShown}
-use Rattle.cluster_core.proofs.Steps.{begin_step, commit_step, error_then, get_step, known_step, put_step, start_step, test_of}
+use Rattle.cluster_core.proofs.Steps.{append_step, begin_step, commit_step, delete_step, error_then, flush_step, get_step, known_step, put_step, start_step, stat_step, test_of}
 use Rattle.cluster_core.proofs.Testing.{on_done}
 use Rattle.std.specs.Prelude.{Some, None, IfErr}
 use Rattle.private_log.specs.Content.{region_of}
 use Rattle.private_log.specs.Reading.{contents}
-use Rattle.cluster_core.specs.Answering.{reply_found, reply_of}
-use Rattle.cluster_core.specs.Causes.{IsAnswer, IsFaultFor, IsFoundIn, IsPutReason, IsToldIn, IsToldOfPages}
+use Rattle.cluster_core.specs.Answering.{reply_deleted, reply_flushed, reply_found, reply_of}
+use Rattle.cluster_core.specs.Causes.{IsAnswer, IsFaultFor, IsFoundIn, IsToldIn, IsToldOfPages, IsWriteReason}
 use Rattle.cluster_core.specs.FaultReply.{IsLogReply, IsToldDamaged}
 use Rattle.cluster_core.specs.Ports.{IsCoveredBut}
-use Rattle.cluster_core.proofs.Causing.{all_kept, damaged_then, fine_or, found_or, idle_before, stop_told, told_found, told_of}
+use Rattle.cluster_core.proofs.Causing.{all_kept, damaged_then, deleted_or, fine_or, flushed_or, found_or, idle_before, known_cause, stop_told, told_deleted, told_flushed, told_found, told_of, told_state}
+use Rattle.txn_core.specs.declared.change.Change.TheVariants.{Append, Delete, Put}
 use Rattle.cluster_core.proofs.cluster.Cluster.exec.Goals as goal
 
 pub returns-in-Err-clause-step : goal.returns-in-Err-clause-step
@@ -52,11 +53,11 @@ returns-in-Get-clause-step g c = λ told runs m shown.
 
 pub returns-in-Put-clause-step : goal.returns-in-Put-clause-step
 returns-in-Put-clause-step g c = λ told runs m shown.
-    let S : Machine → Type 0 = IsShown c.put.new.self (g.D.Disk.state c.put.new.disk).block in
+    let S : Machine → Type 0 = IsShown c.write_record.new.self (g.D.Disk.state c.write_record.new.disk).block in
     subst (λ r. Step m c.args.command.now r S) (sym c.reply_of-in-Put.ensures)
     (put_step c.args.self.now (g.D.Disk.state c.args.disk.now).block m c.law_of_clusters.ensures shown c.args.command.now c.check.result S c.requires.range c.check.ensures c.in_default.is
-    c.in-Put.t c.in-Put.key c.in-Put.value c.put.result c.in-Put.is
-    (c.put.ensures.step told (subst (λ r. says_stop r ≡ false) c.reply_of-in-Put.ensures runs) m shown))
+    c.in-Put.t c.in-Put.key c.in-Put.value c.write_record.result c.in-Put.is
+    (c.write_record.ensures.step told (subst (λ r. says_stop r ≡ false) c.reply_of-in-Put.ensures runs) m shown))
 
 pub returns-in-Commit-clause-step : goal.returns-in-Commit-clause-step
 returns-in-Commit-clause-step g c = λ told runs m shown.
@@ -68,6 +69,11 @@ returns-in-Commit-clause-step g c = λ told runs m shown.
     (on_done c.commit.result c.commit.ensures.shows (λ shows. shows told m shown)))
 
 -- ---- every answer has its cause
+
+pub returns-in-Err-clause-cause : goal.returns-in-Err-clause-cause
+returns-in-Err-clause-cause g c =
+    known_cause (g.D.Disk.state c.args.disk.now) (g.D.Disk.state c.args.disk.now) c.args.self.now c.args.command.now c.in-Err.why
+    (test_of (known c.args.self.now c.args.command.now) c.check.result c.in-Err.why c.check.ensures c.in-Err.is)
 
 pub returns-in-Err-clause-answer : goal.returns-in-Err-clause-answer
 returns-in-Err-clause-answer g c = λ none.
@@ -126,15 +132,15 @@ returns-in-Get-clause-told g c = λ told none.
 
 pub returns-in-Put-clause-answer : goal.returns-in-Put-clause-answer
 returns-in-Put-clause-answer g c = λ none.
-    subst (IsAnswer c.put.new.self c.args.command.now) (sym c.reply_of-in-Put.ensures)
-    (subst (λ k. IsAnswer c.put.new.self k (reply_of c.put.result)) (sym c.in-Put.is) (fine_or (IsPutReason c.put.new.self c.in-Put.key) c.put.result c.put.ensures.refused))
+    subst (IsAnswer c.write_record.new.self c.args.command.now) (sym c.reply_of-in-Put.ensures)
+    (subst (λ k. IsAnswer c.write_record.new.self k (reply_of c.write_record.result)) (sym c.in-Put.is) (fine_or (IsWriteReason c.write_record.new.self c.in-Put.key (Put c.in-Put.value)) c.write_record.result c.write_record.ensures.refused))
 
 pub returns-in-Put-clause-told : goal.returns-in-Put-clause-told
 returns-in-Put-clause-told g c = λ told none.
     let s = c.args.self.now.shape in
-    let b = contents (g.D.Disk.state c.put.new.disk).block in
+    let b = contents (g.D.Disk.state c.write_record.new.disk).block in
     subst (IsToldIn s b c.args.command.now) (sym c.reply_of-in-Put.ensures)
-    (subst (λ k. IsToldIn s b k (reply_of c.put.result)) (sym c.in-Put.is) (told_of (IsToldOfPages s b) c.put.result tt (c.put.ensures.told told)))
+    (subst (λ k. IsToldIn s b k (reply_of c.write_record.result)) (sym c.in-Put.is) (told_of (IsToldOfPages s b) c.write_record.result tt (c.write_record.ensures.told told)))
 
 pub returns-in-Commit-clause-answer : goal.returns-in-Commit-clause-answer
 returns-in-Commit-clause-answer g c = λ none.
@@ -148,3 +154,88 @@ returns-in-Commit-clause-told g c = λ told none.
     subst (IsToldIn s b c.args.command.now) (sym c.reply_of-in-Commit.ensures)
     (subst (λ k. IsToldIn s b k (reply_of c.commit.result)) (sym c.in-Commit.is)
     (told_of (IsToldOfPages s b) c.commit.result tt (error_then c.commit.result (λ why. says_stop why ≡ true) (IsToldOfPages s b) c.commit.ensures.stopped (stop_told s b))))
+
+-- ---- append
+
+pub returns-in-Append-clause-step : goal.returns-in-Append-clause-step
+returns-in-Append-clause-step g c = λ told runs m shown.
+    let S : Machine → Type 0 = IsShown c.write_record-in-Append.new.self (g.D.Disk.state c.write_record-in-Append.new.disk).block in
+    subst (λ r. Step m c.args.command.now r S) (sym c.reply_of-in-Append.ensures)
+    (append_step c.args.self.now (g.D.Disk.state c.args.disk.now).block m c.law_of_clusters.ensures shown c.args.command.now c.check.result S c.requires.range c.check.ensures c.in_default.is
+    c.in-Append.t c.in-Append.key c.in-Append.bytes c.write_record-in-Append.result c.in-Append.is
+    (c.write_record-in-Append.ensures.step told (subst (λ r. says_stop r ≡ false) c.reply_of-in-Append.ensures runs) m shown))
+
+pub returns-in-Append-clause-answer : goal.returns-in-Append-clause-answer
+returns-in-Append-clause-answer g c = λ none.
+    subst (IsAnswer c.write_record-in-Append.new.self c.args.command.now) (sym c.reply_of-in-Append.ensures)
+    (subst (λ k. IsAnswer c.write_record-in-Append.new.self k (reply_of c.write_record-in-Append.result)) (sym c.in-Append.is)
+    (fine_or (IsWriteReason c.write_record-in-Append.new.self c.in-Append.key (Append c.in-Append.bytes)) c.write_record-in-Append.result c.write_record-in-Append.ensures.refused))
+
+pub returns-in-Append-clause-told : goal.returns-in-Append-clause-told
+returns-in-Append-clause-told g c = λ told none.
+    let s = c.args.self.now.shape in
+    let b = contents (g.D.Disk.state c.write_record-in-Append.new.disk).block in
+    subst (IsToldIn s b c.args.command.now) (sym c.reply_of-in-Append.ensures)
+    (subst (λ k. IsToldIn s b k (reply_of c.write_record-in-Append.result)) (sym c.in-Append.is) (told_of (IsToldOfPages s b) c.write_record-in-Append.result tt (c.write_record-in-Append.ensures.told told)))
+
+-- ---- delete
+
+pub returns-in-Del-clause-step : goal.returns-in-Del-clause-step
+returns-in-Del-clause-step g c = λ told runs m shown.
+    let S : Machine → Type 0 = IsShown c.delete.new.self (g.D.Disk.state c.delete.new.disk).block in
+    subst (λ r. Step m c.args.command.now r S) (sym c.reply_deleted.ensures)
+    (delete_step c.args.self.now (g.D.Disk.state c.args.disk.now).block m c.law_of_clusters.ensures shown c.args.command.now c.check.result S c.requires.range c.check.ensures c.in_default.is
+    c.in-Del.t c.in-Del.key c.delete.result c.in-Del.is
+    (c.delete.ensures.step told (subst (λ r. says_stop r ≡ false) c.reply_deleted.ensures runs) m shown))
+
+pub returns-in-Del-clause-answer : goal.returns-in-Del-clause-answer
+returns-in-Del-clause-answer g c = λ none.
+    subst (IsAnswer c.delete.new.self c.args.command.now) (sym c.reply_deleted.ensures)
+    (subst (λ k. IsAnswer c.delete.new.self k (reply_deleted c.delete.result)) (sym c.in-Del.is)
+    (deleted_or (IsWriteReason c.delete.new.self c.in-Del.key Delete) (IsFoundIn c.delete.new.self c.in-Del.key None) c.delete.result c.delete.ensures.absent c.delete.ensures.refused))
+
+pub returns-in-Del-clause-told : goal.returns-in-Del-clause-told
+returns-in-Del-clause-told g c = λ told none.
+    let s = c.args.self.now.shape in
+    let b = contents (g.D.Disk.state c.delete.new.disk).block in
+    subst (IsToldIn s b c.args.command.now) (sym c.reply_deleted.ensures)
+    (subst (λ k. IsToldIn s b k (reply_deleted c.delete.result)) (sym c.in-Del.is) (told_deleted s b c.delete.result (c.delete.ensures.told told)))
+
+-- ---- flush
+
+pub returns-in-Flush-clause-step : goal.returns-in-Flush-clause-step
+returns-in-Flush-clause-step g c = λ told runs m shown.
+    let S : Machine → Type 0 = IsShown c.flush.new.self (g.D.Disk.state c.flush.new.disk).block in
+    subst (λ r. Step m c.args.command.now r S) (sym c.reply_flushed.ensures)
+    (flush_step c.args.self.now (g.D.Disk.state c.args.disk.now).block m c.law_of_clusters.ensures shown c.args.command.now c.check.result S c.requires.range c.check.ensures c.in_default.is
+    c.in-Flush.field-0 c.flush.result c.in-Flush.is (subst (λ r. says_stop r ≡ false) c.reply_flushed.ensures runs) c.flush.ensures.stopped c.flush.ensures.few
+    (on_done c.flush.result c.flush.ensures.shows (λ shows. shows told m shown)))
+
+pub returns-in-Flush-clause-answer : goal.returns-in-Flush-clause-answer
+returns-in-Flush-clause-answer g c = λ none.
+    subst (IsAnswer c.flush.new.self c.args.command.now) (sym c.reply_flushed.ensures)
+    (subst (λ k. IsAnswer c.flush.new.self k (reply_flushed c.flush.result)) (sym c.in-Flush.is) (flushed_or c.flush.result c.flush.ensures.few c.flush.ensures.stopped))
+
+pub returns-in-Flush-clause-told : goal.returns-in-Flush-clause-told
+returns-in-Flush-clause-told g c = λ told none.
+    let s = c.args.self.now.shape in
+    let b = contents (g.D.Disk.state c.flush.new.disk).block in
+    subst (IsToldIn s b c.args.command.now) (sym c.reply_flushed.ensures)
+    (subst (λ k. IsToldIn s b k (reply_flushed c.flush.result)) (sym c.in-Flush.is) (told_flushed s b c.flush.result c.flush.ensures.stopped))
+
+-- ---- stat
+
+pub returns-in-Stat-clause-step : goal.returns-in-Stat-clause-step
+returns-in-Stat-clause-step g c = λ told runs m shown.
+    let S : Machine → Type 0 = IsShown c.args.self.now (g.D.Disk.state c.args.disk.now).block in
+    stat_step c.args.self.now (g.D.Disk.state c.args.disk.now).block m c.law_of_clusters.ensures shown c.args.command.now c.check.result S c.requires.range c.check.ensures c.in_default.is
+    c.in-Stat.field-0 c.stat.result c.in-Stat.is c.stat.ensures shown
+
+pub returns-in-Stat-clause-answer : goal.returns-in-Stat-clause-answer
+returns-in-Stat-clause-answer g c = λ none. subst (λ k. IsAnswer c.args.self.now k c.stat.result) (sym c.in-Stat.is) c.stat.ensures
+
+pub returns-in-Stat-clause-told : goal.returns-in-Stat-clause-told
+returns-in-Stat-clause-told g c = λ told none.
+    let s = c.args.self.now.shape in
+    let b = contents (g.D.Disk.state c.args.disk.now).block in
+    subst (λ k. IsToldIn s b k c.stat.result) (sym c.in-Stat.is) (subst (IsToldOfPages s b) (sym c.stat.ensures) (told_state s b c.args.self.now.node))

@@ -6,6 +6,7 @@ use Rattle.state_ids.specs.Blocks.{page_place}
 use Rattle.node_cache.specs.Room.{IsEntryOf, leaving}
 use Rattle.node_cache.specs.Writes.{KeepsContentsButPages}
 use Rattle.node_cache.specs.Cache.{is_cached}
+use Rattle.node_cache.proofs.Leaving.{all_left}
 use Rattle.cluster_core.specs.declared.node.Node.TheVariants.{Up}
 use Rattle.record_machine.specs.Machine.{Machine}
 use Rattle.record_machine.specs.Meaning.{Means, Plain}
@@ -23,8 +24,9 @@ use Rattle.cluster_core.proofs.Nodes.{out_at_work}
 use Rattle.space_map.specs.Image.{MapImage}
 use Rattle.node_cache.specs.Room.{map_of}
 use Rattle.cluster_core.specs.Changes.{HasMap, ShowsMap}
+use Rattle.cluster_core.specs.Footprint.{NarrowsBesides}
 use Rattle.cluster_core.proofs.MapStays.{map_kept}
-use Rattle.cluster_core.proofs.Footprints.{same_cluster}
+use Rattle.cluster_core.proofs.Footprints.{besides_still, pages_besides, same_cluster}
 use Rattle.cluster_core.proofs.cluster.Cluster.fetch.Given as given
 use Rattle.cluster_core.proofs.cluster.Cluster.fetch.Goals as goal
 
@@ -195,3 +197,21 @@ returns-clause-told g c = λ told.
     missed : (b : Bool) → is_cached c.args.x c.in-Up.cache ≡ b → is_cached c.args.x c.in-Up.cache ≡ false
     missed true hit = absurd (never c.fetch-done.result c.in-Err.fault (c.fetch-done.ensures.hit hit).0 c.in-Err.is)
     missed false new = new
+
+-- ---- the outcomes
+
+pub returns-in-Ok-clause-besides : goal.returns-in-Ok-clause-besides
+returns-in-Ok-clause-besides g c = λ told.
+    let is : IsCluster c.self.inside.shape c.self.inside.shared.pool c.self.inside.shared.owners (Up c.in-Up.cache c.in-Up._seats) = subst (IsCluster c.self.inside.shape c.self.inside.shared.pool c.self.inside.shared.owners) c.in-Up.is c.self.invariant in
+    let a = (g.D.Disk.state c.args.disk.now).block in
+    let b = (g.D.Disk.state c.fetch-done.new.disk).block in
+    subst (λ v. NarrowsBesides v.shape a b) c.self.view_is (pages_besides c.self.inside.shape c.in-Up.cache c.self.inside.shared.pool (leaving c.self.inside.shape c.args.x c.in-Up.cache.pages) a b is.one is.is.store is.is.log_tie (all_left (λ p. p.ticket.page.0 < page_count c.self.inside.shape) c.self.inside.shape c.args.x c.in-Up.cache.pages is.is.store.pages) (c.fetch-done.ensures.outcomes told))
+
+pub returns-clause-besides : goal.returns-clause-besides
+returns-clause-besides g c = λ told.
+    let is : IsCluster c.self.inside.shape c.self.inside.shared.pool c.self.inside.shared.owners (Up c.in-Up.cache c.in-Up._seats) = subst (IsCluster c.self.inside.shape c.self.inside.shared.pool c.self.inside.shared.owners) c.in-Up.is c.self.invariant in
+    let s = c.self.inside.shape in
+    let a = (g.D.Disk.state c.args.disk.now).block in
+    let b = (g.D.Disk.state c.fetch-done.new.disk).block in
+    let d = (g.D.Disk.state c.give_up.new.disk).block in
+    subst (λ v. NarrowsBesides v.shape a d) c.self.view_is (besides_still s a b d (pages_besides s c.in-Up.cache c.self.inside.shared.pool (leaving s c.args.x c.in-Up.cache.pages) a b is.one is.is.store is.is.log_tie (all_left (λ p. p.ticket.page.0 < page_count s) s c.args.x c.in-Up.cache.pages is.is.store.pages) (c.fetch-done.ensures.outcomes told)) (c.give_up.ensures.outcomes told))

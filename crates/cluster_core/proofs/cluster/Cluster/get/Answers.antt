@@ -1,14 +1,15 @@
-use Rattle.std.specs.Prelude.{◌≡◌, ◌++◌, ◌∷◌, [], true, IsTrue}
+use Rattle.std.specs.Prelude.{◌≡◌, true, IsTrue}
 use Rattle.std.proofs.Common.{ap, subst, sym, ◌∙◌}
 use Rattle.record_locks.specs.declared.mode.Mode.TheVariants as locks
 use Rattle.record_locks.specs.Answer.{lock_answer, may_take}
 use Rattle.record_locks.specs.Held.{taken}
-use Rattle.record_machine.specs.Commands.{found, takes_both}
-use Rattle.record_machine.specs.Machine.{Machine, home}
-use Rattle.record_machine.specs.Parts.{Lock, dos, one}
+use Rattle.script_text.specs.declared.command.Command.TheVariants as asks
+use Rattle.record_machine.specs.Commands.{found, parts}
+use Rattle.record_machine.specs.Machine.{Machine}
+use Rattle.record_machine.specs.Parts.{dos}
 use Rattle.cluster_core.specs.Ports.{says_stop}
 use Rattle.cluster_core.specs.Shows.{IsShown}
-use Rattle.cluster_core.proofs.ShownLocks.{dos-append, found_is, read_is, shown_locked, still_within, takes_home, takes_seen}
+use Rattle.cluster_core.proofs.ShownLocks.{found_is, locks_behind, still_within, taken_read}
 use Rattle.cluster_core.proofs.Testing.{passed_on}
 use Rattle.private_log.specs.Reading.{contents}
 use Rattle.cluster_core.specs.Causes.{IsFaultFor, IsFoundIn, IsPageFor, IsToldOfPages}
@@ -23,27 +24,18 @@ returns-in_err-home-clause-stopped g c =
 
 pub returns-clause-answer : goal.returns-clause-answer
 returns-clause-answer g c = λ told m shown.
-    let key = c.args.key.0 in
-    let t = c.args.t in
-    let after = c.in_ok-home.ensures.shows told m shown in
-    let free = subst (λ held. IsTrue (may_take (lock_answer held c.args.key t locks.Read))) (sym c.in_ok-home.ensures.locks) c.requires.lock in
-    let here = c.in_ok-home.ensures.found told m shown ∙ sym (takes_home m 1 key key (home m key)) in
-    found_is c.record_in-value.result ∙ ap found (read_is c.take_group.new.self (g.D.Disk.state c.take_group.new.disk).block (dos (takes_both m 1 key (home m key)) m) c.args.key t locks.Read c.in_ok-home.home c.record_in-value.result
-    c.in_ok-home.ensures.up free here (still_within c.in_ok-home.home c.args.self.now.shape c.take_group.new.self.shape _ c.in_ok-home.ensures.shape c.in_ok-home.ensures.page) c.record_in-value.ensures.none c.record_in-value.ensures.some c.record_in-value.ensures.there after ∙ takes_seen m 1 key key t (home m key))
+    let free = subst (λ held. IsTrue (may_take (lock_answer held c.args.key c.args.t locks.Read))) (sym c.in_ok-home.ensures.locks) c.requires.lock in
+    found_is c.record_in-value.result ∙ ap found (taken_read c.take_group.new.self (g.D.Disk.state c.take_group.new.disk).block m c.args.key c.args.t locks.Read c.in_ok-home.home c.record_in-value.result
+    c.in_ok-home.ensures.up free (c.in_ok-home.ensures.found told m shown) (still_within c.in_ok-home.home c.args.self.now.shape c.take_group.new.self.shape _ c.in_ok-home.ensures.shape c.in_ok-home.ensures.page) c.record_in-value.ensures.none c.record_in-value.ensures.some c.record_in-value.ensures.there (c.in_ok-home.ensures.shows told m shown))
 
 pub returns-clause-shows : goal.returns-clause-shows
 returns-clause-shows g c = λ told m shown.
-    let key = c.args.key.0 in
-    let t = c.args.t in
-    let after = c.in_ok-home.ensures.shows told m shown in
-    let free = subst (λ held. IsTrue (may_take (lock_answer held c.args.key t locks.Read))) (sym c.in_ok-home.ensures.locks) c.requires.lock in
-    let more = shown_locked c.take_group.new.self (g.D.Disk.state c.take_group.new.disk).block (dos (takes_both m 1 key (home m key)) m) c.args.key t locks.Read free after in
+    let free = subst (λ held. IsTrue (may_take (lock_answer held c.args.key c.args.t locks.Read))) (sym c.in_ok-home.ensures.locks) c.requires.lock in
     let b = (g.D.Disk.state c.take_group.new.disk).block in
     let inside = c.self.inside in
-    let view = subst (λ v. IsShown (record v { locks = taken v.locks c.args.key t locks.Read }) b (one (Lock c.args.key t locks.Read) (dos (takes_both m 1 key (home m key)) m))) (sym c.self.view_is) more in
-    subst (λ n. IsShown (record { shape = inside.shape; pool = inside.shared.pool; owners = inside.shared.owners; locks = c.take.new.self; node = inside.node; reopening = inside.shared.reopening }) b (dos (takes_both m n key (home m key) ++ Lock c.args.key t locks.Read ∷ []) m)) (sym c.requires.node)
-    (subst (λ k. IsShown (record { shape = inside.shape; pool = inside.shared.pool; owners = inside.shared.owners; locks = c.take.new.self; node = inside.node; reopening = inside.shared.reopening }) b k) (sym (dos-append (takes_both m 1 key (home m key)) (Lock c.args.key t locks.Read ∷ []) m))
-    (subst (λ held. IsShown (record { shape = inside.shape; pool = inside.shared.pool; owners = inside.shared.owners; locks = held; node = inside.node; reopening = inside.shared.reopening }) b (one (Lock c.args.key t locks.Read) (dos (takes_both m 1 key (home m key)) m))) (sym c.take.ensures) view))
+    let more = locks_behind c.take_group.new.self b m c.args.key c.args.t locks.Read c.requires.node free (c.in_ok-home.ensures.shows told m shown) in
+    let view = subst (λ v. IsShown (record v { locks = taken v.locks c.args.key c.args.t locks.Read }) b (dos (parts m (asks.Get c.args.t c.args.key)) m)) (sym c.self.view_is) more in
+    subst (λ held. IsShown (record { shape = inside.shape; pool = inside.shared.pool; owners = inside.shared.owners; locks = held; node = inside.node; reopening = inside.shared.reopening }) b (dos (parts m (asks.Get c.args.t c.args.key)) m)) (sym c.take.ensures) view
 
 -- ---- why no record is found
 

@@ -14,7 +14,7 @@ use Rattle.cluster_core.specs.Shows.{IsShown}
 use Rattle.cluster_core.proofs.ShownImages.{home_is, map_number_is, one_entries}
 use Rattle.cluster_core.proofs.Testing.{passed_on}
 use Rattle.cluster_core.proofs.Fetching.{never}
-use Rattle.cluster_core.proofs.Footprints.{map_at_number}
+use Rattle.cluster_core.proofs.Footprints.{besides_then, map_at_number}
 use Rattle.cluster_core.proofs.Images.{cached_map}
 use Rattle.std.proofs.Common.{◌≤◌, inl, inr}
 use Rattle.private_log.specs.Reading.{contents}
@@ -177,3 +177,13 @@ returns-in-None-clause-none g c =
     let used = sym (ap (λ h. position (is_used_by h) there.0.entries) c.group_of.ensures.group) ∙ sym (c.place_of_group.ensures.first there.0 there.1) ∙ c.in-None.is in
     let number = at_none g c ∙ sym (ap (λ s. map_number s c.args.key.0) c.in_ok-fetch.ensures.shape) in
     (there.0, subst (λ n. ShowsMap c.fetch.new.self (record { 0 = n }) there.0) number there.1, used)
+
+-- ---- the outcomes, behind both pages
+
+pub returns-in_err-x-in-Some-clause-besides : goal.returns-in_err-x-in-Some-clause-besides
+returns-in_err-x-in-Some-clause-besides g c = λ told.
+    besides_then c.args.self.now.shape c.fetch.new.self.shape (g.D.Disk.state c.args.disk.now).block (g.D.Disk.state c.fetch.new.disk).block (g.D.Disk.state c.take_data.new.disk).block c.fetch.ensures.shape (c.fetch.ensures.besides told) (c.take_data.ensures.besides told)
+
+pub returns-in_ok-x-in-Some-clause-besides : goal.returns-in_ok-x-in-Some-clause-besides
+returns-in_ok-x-in-Some-clause-besides g c = λ told.
+    besides_then c.args.self.now.shape c.fetch.new.self.shape (g.D.Disk.state c.args.disk.now).block (g.D.Disk.state c.fetch.new.disk).block (g.D.Disk.state c.take_data.new.disk).block c.fetch.ensures.shape (c.fetch.ensures.besides told) (c.take_data.ensures.besides told)

@@ -12,6 +12,7 @@ use Rattle.txn_core.specs.Seats.{owed}
 use Rattle.cluster_core.specs.declared.node.Node.TheVariants.{Up}
 use Rattle.cluster_core.specs.Changes.{HasMap, UsesPlace}
 use Rattle.cluster_core.specs.Cluster.{CanEnd, IsCluster}
+use Rattle.cluster_core.specs.Footprint.{NarrowsBesides}
 use Rattle.cluster_core.specs.Ports.{OnUp}
 use Rattle.cluster_core.specs.Shows.{ShowsNode, ShowsStore}
 use Rattle.cluster_core.proofs.CachedImages.{map_shown}
@@ -22,7 +23,7 @@ use Rattle.cluster_core.proofs.Nodes.{out_at_work}
 use Rattle.cluster_core.proofs.PageChanged.{cluster_changed}
 use Rattle.cluster_core.proofs.ShownUse.{means_placed, up_used, uses_place}
 use Rattle.cluster_core.proofs.Fetching.{never}
-use Rattle.cluster_core.proofs.Footprints.{not_full}
+use Rattle.cluster_core.proofs.Footprints.{besides_still, log_besides, not_full}
 use Rattle.cluster_core.proofs.cluster.Cluster.use_place.Given as given
 use Rattle.cluster_core.proofs.cluster.Cluster.use_place.Goals as goal
 
@@ -128,3 +129,21 @@ pub returns-clause-memory : goal.returns-clause-memory
 returns-clause-memory g c = λ room.
     let fits : c.in-Up.cache.log.tail % 6 + 1 < 6 = subst (λ n. OnUp n (λ d seats. d.log.tail % 6 + 1 < 6)) c.in-Up.is (subst (λ v. OnUp v.node (λ d seats. d.log.tail % 6 + 1 < 6)) (sym c.self.view_is) room) in
     absurd (never c.change-done.result c.in-Err.fault (c.change-done.ensures.sure (not_full c.in-Up.cache.log.tail fits)) c.in-Err.is)
+
+-- ---- the outcomes
+
+pub returns-in-Ok-clause-besides : goal.returns-in-Ok-clause-besides
+returns-in-Ok-clause-besides g c = λ told.
+    let is : IsCluster c.self.inside.shape c.self.inside.shared.pool c.self.inside.shared.owners (Up c.in-Up.cache c.in-Up._seats) = subst (IsCluster c.self.inside.shape c.self.inside.shared.pool c.self.inside.shared.owners) c.in-Up.is c.self.invariant in
+    let a = (g.D.Disk.state c.args.disk.now).block in
+    let b = (g.D.Disk.state c.change-done.new.disk).block in
+    subst (λ v. NarrowsBesides v.shape a b) c.self.view_is (log_besides c.self.inside.shape c.in-Up.cache a b is.one is.is.store is.is.log_tie (c.change-done.ensures.outcomes told))
+
+pub returns-clause-besides : goal.returns-clause-besides
+returns-clause-besides g c = λ told.
+    let is : IsCluster c.self.inside.shape c.self.inside.shared.pool c.self.inside.shared.owners (Up c.in-Up.cache c.in-Up._seats) = subst (IsCluster c.self.inside.shape c.self.inside.shared.pool c.self.inside.shared.owners) c.in-Up.is c.self.invariant in
+    let s = c.self.inside.shape in
+    let a = (g.D.Disk.state c.args.disk.now).block in
+    let b = (g.D.Disk.state c.change-done.new.disk).block in
+    let d = (g.D.Disk.state c.give_up.new.disk).block in
+    subst (λ v. NarrowsBesides v.shape a d) c.self.view_is (besides_still s a b d (log_besides s c.in-Up.cache a b is.one is.is.store is.is.log_tie (c.change-done.ensures.outcomes told)) (c.give_up.ensures.outcomes told))

@@ -12,7 +12,7 @@ pub returns-in-Some-page_op-clause-found : goal.returns-in-Some-page_op-clause-f
 returns-in-Some-page_op-clause-found g c = λ told recs t is has tells.
     let found = subst (λ o. MatchOption o (uncompensated t.begin (6 * c.args.c.now.log.start) recs ≡ [])
     (λ u. (newest (uncompensated t.begin (6 * c.args.c.now.log.start) recs) ≡ Some u.0) × (record_at (6 * c.args.c.now.log.start) recs u.0 ≡ Some u.1) × (is_update_of t.begin u.1 ≡ true))) c.in-Some.is (c.in_ok-number.ensures.found told recs t is has tells) in
-    (found.0, c.in-Some.update, found.1, subst (λ o. IfSome o (λ q. q.0 ≡ c.in-Some-page_op.page)) (sym c.in-Some-page_op.is ∙ c.page_op.ensures) refl)
+    (found.0, c.in-Some.update, found.1, found.2, subst (λ o. IfSome o (λ q. q.0 ≡ c.in-Some-page_op.page)) (sym c.in-Some-page_op.is ∙ c.page_op.ensures) refl)
 
 pub returns-in_default-clause-left : goal.returns-in_default-clause-left
 returns-in_default-clause-left g c = λ t is. subst (λ o. MatchOption o (t.left ≡ 0) (λ u. 1 ≤ t.left)) c.in_default.is (c.in_ok-number.ensures.left t is)

@@ -1,6 +1,6 @@
 use Rattle.std.proofs.Common.{rules, sym, subst}
 use Rattle.txn_core.specs.Told.{HasRecords}
-use Rattle.txn_core.proofs.compensating.next_behind.Goals as goal
+use Rattle.txn_core.proofs.undoing.next_behind.Goals as goal
 
 pub returns-in_err-rec-clause-there : goal.returns-in_err-rec-clause-there
 returns-in_err-rec-clause-there g c = λ told recs has from below.

@@ -11,19 +11,19 @@ use Rattle.cluster_core.specs.Footprint.{CanWriteAt, FillsNoBlock}
 use Rattle.cluster_core.specs.Places.{map_number, page_number}
 use Rattle.cluster_core.specs.Ports.{says_stop}
 use Rattle.cluster_core.specs.Shows.{IsShown}
-use Rattle.cluster_core.proofs.PutTests.{answers_anew, answers_there, the_error}
+use Rattle.cluster_core.proofs.WriteTests.{changes_anew, changes_there, the_error}
 use Rattle.cluster_core.proofs.ShownLocks.{takes_home}
 use Rattle.cluster_core.proofs.Fetching.{never}
-use Rattle.cluster_core.proofs.Footprints.{no_place, place_fills, places_cached}
+use Rattle.cluster_core.proofs.Footprints.{besides_then, no_place, place_fills, places_cached}
 use Rattle.std.specs.Prelude.{◌⊎◌, IfErr, IfNone}
 use Rattle.std.proofs.Common.{inr}
 use Rattle.private_log.specs.Reading.{contents}
-use Rattle.cluster_core.specs.Causes.{HasNoPage, IsFaultFor, IsPageFor, IsPutReason, IsRefusal, IsToldOfPages}
-use Rattle.cluster_core.proofs.Causing.{put_reason, put_told}
+use Rattle.cluster_core.specs.Causes.{HasNoPage, IsFaultFor, IsPageFor, IsToldOfPages, IsWriteReason, IsWriteRefusal}
+use Rattle.cluster_core.proofs.Causing.{write_reason, write_told}
 use Rattle.cluster_core.proofs.Steps.{error_then}
 use Rattle.cluster_core.proofs.Testing.{passed_on}
-use Rattle.cluster_core.proofs.cluster.Cluster.put.Given as given
-use Rattle.cluster_core.proofs.cluster.Cluster.put.Goals as goal
+use Rattle.cluster_core.proofs.cluster.Cluster.write_record.Given as given
+use Rattle.cluster_core.proofs.cluster.Cluster.write_record.Goals as goal
 
 pub returns-in_err-x-clause-step : goal.returns-in_err-x-clause-step
 returns-in_err-x-clause-step g c = λ told runs m shown.
@@ -38,7 +38,7 @@ returns-in-Some-clause-step g c = λ told runs m shown.
     let here : home m key ≡ Some c.in-Some.x.0 = sym (c.in_ok-x.ensures.found told m shown) ∙ ap (option_map (λ x. x.0)) c.in-Some.is in
     let taken = c.in_ok-x.ensures.shows told m shown in
     let there = takes_home m 1 key key (home m key) ∙ here in
-    answers_there m c.args.t c.args.key c.args.value c.in-Some.x.0 c.put_there.result (IsShown c.put_there.new.self (g.D.Disk.state c.put_there.new.disk).block) c.requires.node here (c.put_there.ensures.step told runs (dos (takes_both m 1 key (home m key)) m) there taken)
+    changes_there m c.args.t c.args.key c.args.what.now c.in-Some.x.0 c.write_there.result (IsShown c.write_there.new.self (g.D.Disk.state c.write_there.new.disk).block) c.requires.node here (c.write_there.ensures.step told runs (dos (takes_both m 1 key (home m key)) m) there taken)
 
 pub returns-in-None-clause-step : goal.returns-in-None-clause-step
 returns-in-None-clause-step g c = λ told runs m shown.
@@ -46,7 +46,7 @@ returns-in-None-clause-step g c = λ told runs m shown.
     let none : home m key ≡ None = sym (c.in_ok-x.ensures.found told m shown) ∙ ap (option_map (λ x. x.0)) c.in-None.is in
     let taken = c.in_ok-x.ensures.shows told m shown in
     let still = takes_home m 1 key key (home m key) ∙ none in
-    answers_anew m c.args.t c.args.key c.args.value c.put_anew.result (IsShown c.put_anew.new.self (g.D.Disk.state c.put_anew.new.disk).block) c.requires.node none (c.put_anew.ensures.step told runs (dos (takes_both m 1 key (home m key)) m) still taken)
+    changes_anew m c.args.t c.args.key c.args.what.now c.write_anew.result (IsShown c.write_anew.new.self (g.D.Disk.state c.write_anew.new.disk).block) c.requires.node none (c.write_anew.ensures.step told runs (dos (takes_both m 1 key (home m key)) m) still taken)
 
 -- ---- where all is in memory
 
@@ -62,7 +62,7 @@ returns-in-Some-clause-memory g c = λ hand.
     let hit = c.take_group.ensures.hit hand.image hand.map (places_cached c.args.self.now at 1 _ hand.used) in
     let found = ap (option_map (λ x. x.0)) (sym c.in-Some.is) ∙ c.in_ok-x.ensures.map hand.image (subst (λ v. ShowsMap v (record { 0 = at }) hand.image) (sym hit.1) hand.map) in
     let room = place_fills c.args.self.now at 1 c.in-Some.x.0 (page_number c.args.self.now.shape at) _ found hand.used in
-    let same = c.put_there.ensures.memory (subst (λ v. FillsNoBlock v 1) (sym hit.1) room) in
+    let same = c.write_there.ensures.memory (subst (λ v. FillsNoBlock v 1) (sym hit.1) room) in
     (same.0 ∙ hit.2, same.1 ∙ hit.3)
 
 pub returns-in-None-clause-memory : goal.returns-in-None-clause-memory
@@ -71,7 +71,7 @@ returns-in-None-clause-memory g c = λ hand.
     let hit = c.take_group.ensures.hit hand.image hand.map (places_cached c.args.self.now at 1 _ hand.used) in
     let found = ap (option_map (λ x. x.0)) (sym c.in-None.is) ∙ c.in_ok-x.ensures.map hand.image (subst (λ v. ShowsMap v (record { 0 = at }) hand.image) (sym hit.1) hand.map) in
     let free = hand.free (no_place (page_number c.args.self.now.shape at) _ found) in
-    let same = c.put_anew.ensures.memory hand.image (subst (λ v. ShowsMap v (record { 0 = map_number v.shape c.args.key.0 }) hand.image) (sym hit.1) hand.map)
+    let same = c.write_anew.ensures.memory hand.image (subst (λ v. ShowsMap v (record { 0 = map_number v.shape c.args.key.0 }) hand.image) (sym hit.1) hand.map)
     (subst (λ v. IfSome (position is_free hand.image.entries) (CanWriteAt v (map_number v.shape c.args.key.0) 2)) (sym hit.1) free) in
     (same.0 ∙ hit.2, same.1 ∙ hit.3)
 
@@ -79,7 +79,7 @@ returns-in-None-clause-memory g c = λ hand.
 
 pub returns-in_err-x-clause-refused : goal.returns-in_err-x-clause-refused
 returns-in_err-x-clause-refused g c =
-    passed_on c.from_residual.result _ (IsPutReason c.take_group.new.self c.args.key) c.from_residual.ensures.1
+    passed_on c.from_residual.result _ (IsWriteReason c.take_group.new.self c.args.key c.args.what.now) c.from_residual.ensures.1
     (λ why same. inr (subst (IsFaultFor c.take_group.new.self.shape c.args.key) (sym same) (subst (λ s. IsFaultFor s c.args.key c.in_err-x.field-0.0) (sym c.take_group.ensures.shape) c.in_err-x.ensures.fault)))
 
 pub returns-in_err-x-clause-told : goal.returns-in_err-x-clause-told
@@ -88,24 +88,34 @@ returns-in_err-x-clause-told g c = λ told.
     (λ why same. subst (IsToldOfPages c.args.self.now.shape (contents (g.D.Disk.state c.take_group.new.disk).block)) (sym same) (c.in_err-x.ensures.told told))
 
 -- the page that the group has is one for the key
-its_page : (g : given.Over) (c : goal.After-put_there g) → IsPageFor c.take_group.new.self.shape c.args.key c.in-Some.x
+its_page : (g : given.Over) (c : goal.After-write_there g) → IsPageFor c.take_group.new.self.shape c.args.key c.in-Some.x
 its_page g c = subst (λ s. IsPageFor s c.args.key c.in-Some.x) (sym c.in_ok-x.ensures.shape) (subst (λ o. IfSome o (IsPageFor c.args.self.now.shape c.args.key)) c.in-Some.is c.in_ok-x.ensures.for_key)
 
 pub returns-in-Some-clause-refused : goal.returns-in-Some-clause-refused
 returns-in-Some-clause-refused g c =
-    error_then c.put_there.result (λ why. (says_stop why ≡ true) ⊎ IsRefusal c.put_there.new.self c.args.key why) (IsPutReason c.put_there.new.self c.args.key) (c.put_there.ensures.refused (its_page g c)) (put_reason c.put_there.new.self c.args.key)
+    error_then c.write_there.result (λ why. (says_stop why ≡ true) ⊎ IsWriteRefusal c.write_there.new.self c.args.key c.args.what.now why) (IsWriteReason c.write_there.new.self c.args.key c.args.what.now) (c.write_there.ensures.refused (its_page g c)) (write_reason c.write_there.new.self c.args.key c.args.what.now)
 
 pub returns-in-Some-clause-told : goal.returns-in-Some-clause-told
 returns-in-Some-clause-told g c = λ told.
-    error_then c.put_there.result (λ why. (says_stop why ≡ true) ⊎ IsRefusal c.put_there.new.self c.args.key why) (IsToldOfPages c.args.self.now.shape (contents (g.D.Disk.state c.put_there.new.disk).block)) (c.put_there.ensures.refused (its_page g c))
-    (put_told c.args.self.now.shape (contents (g.D.Disk.state c.put_there.new.disk).block) c.put_there.new.self c.args.key)
+    error_then c.write_there.result (λ why. (says_stop why ≡ true) ⊎ IsWriteRefusal c.write_there.new.self c.args.key c.args.what.now why) (IsToldOfPages c.args.self.now.shape (contents (g.D.Disk.state c.write_there.new.disk).block)) (c.write_there.ensures.refused (its_page g c))
+    (write_told c.args.self.now.shape (contents (g.D.Disk.state c.write_there.new.disk).block) c.write_there.new.self c.args.key c.args.what.now)
 
 -- it has none
-no_page : (g : given.Over) (c : goal.After-put_anew g) → HasNoPage c.take_group.new.self c.args.key
+no_page : (g : given.Over) (c : goal.After-write_anew g) → HasNoPage c.take_group.new.self c.args.key
 no_page g c = subst (λ o. IfNone o (HasNoPage c.take_group.new.self c.args.key)) c.in-None.is c.in_ok-x.ensures.none
 
 pub returns-in-None-clause-refused : goal.returns-in-None-clause-refused
-returns-in-None-clause-refused g c = c.put_anew.ensures.refused (no_page g c)
+returns-in-None-clause-refused g c = c.write_anew.ensures.refused (no_page g c)
 
 pub returns-in-None-clause-told : goal.returns-in-None-clause-told
-returns-in-None-clause-told g c = λ told. subst (λ s. IfErr c.put_anew.result (IsToldOfPages s (contents (g.D.Disk.state c.put_anew.new.disk).block))) c.in_ok-x.ensures.shape (c.put_anew.ensures.told told (no_page g c))
+returns-in-None-clause-told g c = λ told. subst (λ s. IfErr c.write_anew.result (IsToldOfPages s (contents (g.D.Disk.state c.write_anew.new.disk).block))) c.in_ok-x.ensures.shape (c.write_anew.ensures.told told (no_page g c))
+
+-- ---- the outcomes, behind both calls
+
+pub returns-in-Some-clause-besides : goal.returns-in-Some-clause-besides
+returns-in-Some-clause-besides g c = λ told.
+    besides_then c.args.self.now.shape c.take_group.new.self.shape (g.D.Disk.state c.args.disk.now).block (g.D.Disk.state c.take_group.new.disk).block (g.D.Disk.state c.write_there.new.disk).block c.take_group.ensures.shape (c.take_group.ensures.besides told) (c.write_there.ensures.besides told)
+
+pub returns-in-None-clause-besides : goal.returns-in-None-clause-besides
+returns-in-None-clause-besides g c = λ told.
+    besides_then c.args.self.now.shape c.take_group.new.self.shape (g.D.Disk.state c.args.disk.now).block (g.D.Disk.state c.take_group.new.disk).block (g.D.Disk.state c.write_anew.new.disk).block c.take_group.ensures.shape (c.take_group.ensures.besides told) (c.write_anew.ensures.besides told)

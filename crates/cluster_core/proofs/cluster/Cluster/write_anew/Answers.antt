@@ -1,11 +1,12 @@
-use Rattle.std.specs.Prelude.{◌≡◌, ◌≤◌, ◌<◌, ◌∷◌, [], true, false, IsTrue, Some, Err, option_map, refl}
+use Rattle.std.specs.Prelude.{◌≡◌, ◌≤◌, ◌<◌, ◌%◌, ◌∷◌, [], true, false, IsTrue, Some, Err, option_map, refl}
 use Rattle.std.proofs.Common.{inl, inr, ap, subst, sym, ◌∙◌}
 use Rattle.sd_base.specs.Shape.{page_count}
 use Rattle.record_locks.specs.declared.mode.Mode.TheVariants as locks
 use Rattle.record_locks.specs.Answer.{lock_answer, may_take}
+use Rattle.compensation.specs.Inverse.{content}
 use Rattle.record_machine.specs.Commands.{at_limit, first_of, no_page}
 use Rattle.record_machine.specs.Commands as wants
-use Rattle.record_machine.specs.Machine.{group_of, home, map_of, page_at}
+use Rattle.record_machine.specs.Machine.{group_of, home, map_of, page_at, seen}
 use Rattle.record_machine.specs.Parts.{Change, Lock, Take, Use, dos, one}
 use Rattle.record_machine.proofs.UseSteps.{home_new}
 use Rattle.cluster_core.specs.Answering.{new_takes, reply_of}
@@ -14,18 +15,18 @@ use Rattle.cluster_core.specs.Known.{checked}
 use Rattle.cluster_core.specs.Places.{map_number, page_number}
 use Rattle.cluster_core.specs.Ports.{says_stop}
 use Rattle.cluster_core.specs.Shows.{IsShown}
-use Rattle.cluster_core.proofs.PutTests.{failed, new_parts_are, new_tests, not_stopped, of_done, page_passed, place_tests, the_error, was_done, write_tests}
+use Rattle.cluster_core.proofs.WriteTests.{failed, fits, new_parts_are, new_tests, not_stopped, of_done, page_fits, page_stays, place_tests, suits_any, tested_new, the_error, was_done}
 use Rattle.cluster_core.proofs.Fetching.{never}
-use Rattle.cluster_core.proofs.Footprints.{fills_behind, fills_less, free_at, map_at_number}
+use Rattle.cluster_core.proofs.Footprints.{besides_then, fills_behind, fills_less, free_at, map_at_number}
 use Rattle.private_log.specs.Reading.{contents}
-use Rattle.cluster_core.specs.Changes.{ShowsMap}
+use Rattle.cluster_core.specs.Changes.{ShowsMap, length_refusal, value_after}
 use Rattle.script_text.specs.declared.reply.Reply.{Reply}
-use Rattle.cluster_core.specs.Causes.{HasNoPage, IsFaultFor, IsPageFor, IsPutReason, IsRefusal, IsToldOfPages}
+use Rattle.cluster_core.specs.Causes.{HasNoPage, IsFaultFor, IsPageFor, IsToldOfPages, IsWriteReason, IsWriteRefusal}
 use Rattle.cluster_core.proofs.Causing.{place_refused, refusal_told, stop_fault, stop_told, write_refused}
 use Rattle.cluster_core.proofs.Steps.{error_then}
 use Rattle.cluster_core.proofs.Testing.{passed_on}
-use Rattle.cluster_core.proofs.cluster.Cluster.put_anew.Given as given
-use Rattle.cluster_core.proofs.cluster.Cluster.put_anew.Goals as goal
+use Rattle.cluster_core.proofs.cluster.Cluster.write_anew.Given as given
+use Rattle.cluster_core.proofs.cluster.Cluster.write_anew.Goals as goal
 
 pub returns-in_err-place-clause-step : goal.returns-in_err-place-clause-step
 returns-in_err-place-clause-step g c = λ told runs m none shown.
@@ -33,8 +34,8 @@ returns-in_err-place-clause-step g c = λ told runs m none shown.
     let there = c.new_place.ensures.there in
     let at = subst (λ v. c.map_page-map.result.0 ≡ map_number v.shape c.args.key.0) c.self.view_is c.map_page-map.ensures.at in
     let near = subst (λ v. c.map_page-map.result.0 < v.shape.maps) c.self.view_is c.map_page-map.ensures.low in
-    let refused = place_tests c.args.self.now (g.D.Disk.state c.args.disk.now).block shown.0 m shown.1 c.requires.up c.args.key.0 c.map_page-map.result there.0 c.args.t.node e.0 none at near there.1 (sym (c.new_place.ensures.is there.0 there.1) ∙ c.in_err-place.was ∙ ap Err (sym e.2)) in
-    failed _ (no_page m c.args.t.node c.args.key.0) c.from_residual.result e.0 (ap checked refused) e.1 (inl shown)
+    let refused = place_tests c.args.self.now (g.D.Disk.state c.args.disk.now).block shown.0 m shown.1 c.requires.up c.args.key.0 c.map_page-map.result there.0 c.args.t.node (length_refusal c.args.what.now (seen m c.args.t c.args.key.0)) e.0 none at near there.1 (sym (c.new_place.ensures.is there.0 there.1) ∙ c.in_err-place.was ∙ ap Err (sym e.2)) in
+    failed _ (no_page m c.args.t.node c.args.key.0 (length_refusal c.args.what.now (seen m c.args.t c.args.key.0))) c.from_residual.result e.0 (ap checked refused) e.1 (inl shown)
 
 pub returns-in_err-x-clause-step : goal.returns-in_err-x-clause-step
 returns-in_err-x-clause-step g c = λ told runs m none shown.
@@ -43,23 +44,24 @@ returns-in_err-x-clause-step g c = λ told runs m none shown.
     let runs_on : says_stop e.0 ≡ false = ap (λ r. says_stop (reply_of r)) (sym e.1) ∙ runs in
     let never : true ≡ false = sym stops ∙ runs_on in cc
 
-pub returns-in_err-check_write-clause-step : goal.returns-in_err-check_write-clause-step
-returns-in_err-check_write-clause-step g c = λ told runs m none shown.
-    let e = the_error c.from_residual-in_err-check_write.result _ c.from_residual-in_err-check_write.ensures.1 in
+pub returns-in_err-check_change-clause-step : goal.returns-in_err-check_change-clause-step
+returns-in_err-check_change-clause-step g c = λ told runs m none shown.
+    let e = the_error c.from_residual-in_err-check_change.result _ c.from_residual-in_err-check_change.ensures.1 in
     let there = c.new_place.ensures.there in
     let at = subst (λ v. c.map_page-map.result.0 ≡ map_number v.shape c.args.key.0) c.self.view_is c.map_page-map.ensures.at in
     let near = subst (λ v. c.map_page-map.result.0 < v.shape.maps) c.self.view_is c.map_page-map.ensures.low in
-    let news = new_tests c.args.self.now (g.D.Disk.state c.args.disk.now).block shown.0 m shown.1 c.requires.up c.args.key.0 c.in_ok-place.place c.map_page-map.result there.0 c.args.t.node none at near there.1 (sym (c.new_place.ensures.is there.0 there.1) ∙ c.in_ok-place.was) in
+    let news = new_tests c.args.self.now (g.D.Disk.state c.args.disk.now).block shown.0 m shown.1 c.requires.up c.args.key.0 c.in_ok-place.place c.map_page-map.result there.0 c.args.t.node (length_refusal c.args.what.now (seen m c.args.t c.args.key.0)) none at near there.1 (sym (c.new_place.ensures.is there.0 there.1) ∙ c.in_ok-place.was) in
     let x = page_number c.args.self.now.shape c.map_page-map.result.0 c.in_ok-place.place in
     let taken = c.in_ok-x.ensures.shows told m shown in
     let page = c.in_ok-x.ensures.page in
-    let held = c.check_write.ensures.there in
+    let held = c.check_change.ensures.there in
     let far = subst (λ s. s.maps ≤ c.in_ok-x.x.0) (sym c.in_ok-x.ensures.shape) page.1 in
     let within = subst (λ s. c.in_ok-x.x.0 < page_count s) (sym c.in_ok-x.ensures.shape) page.2 in
-    let tests = write_tests c.take_data.new.self (g.D.Disk.state c.take_data.new.disk).block taken.0 (one (Take x 1) m) c.law_of_clusters.ensures taken.1 c.in_ok-x.ensures.up c.in_ok-x.x held.0 c.args.t.node 3 c.requires.node far within held.1 in
-    let asked : no_page m c.args.t.node c.args.key.0 ≡ first_of (at_limit m c.in_ok-x.x.0 ∷ wants.no_room m c.args.t.node 3 ∷ []) = news.3 ∙ ap (λ k. first_of (at_limit m k ∷ wants.no_room m c.args.t.node 3 ∷ [])) (sym page.0) in
-    failed _ (no_page m c.args.t.node c.args.key.0) c.from_residual-in_err-check_write.result e.0
-    (ap checked (asked ∙ tests) ∙ sym (c.check_write.ensures.tests held.0 held.1) ∙ c.in_err-check_write.was ∙ ap Err (sym e.2)) e.1
+    let tests = tested_new c.take_data.new.self (g.D.Disk.state c.take_data.new.disk).block (one (Take x 1) m) c.law_of_clusters.ensures taken c.in_ok-x.ensures.up c.args.t c.args.key c.in_ok-place.place c.args.what.now c.in_ok-x.x held.0 c.requires.node none news.0 (news.2 ∙ ap Some (sym page.0)) far within held.1 in
+    let extra = length_refusal c.args.what.now (seen m c.args.t c.args.key.0) in
+    let asked : no_page m c.args.t.node c.args.key.0 extra ≡ first_of (at_limit m c.in_ok-x.x.0 ∷ extra ∷ wants.no_room m c.args.t.node 3 ∷ []) = news.3 ∙ ap (λ k. first_of (at_limit m k ∷ extra ∷ wants.no_room m c.args.t.node 3 ∷ [])) (sym page.0) in
+    failed _ (no_page m c.args.t.node c.args.key.0 (length_refusal c.args.what.now (seen m c.args.t c.args.key.0))) c.from_residual-in_err-check_change.result e.0
+    (ap checked (asked ∙ tests) ∙ sym (c.check_change.ensures.tests held.0 held.1) ∙ c.in_err-check_change.was ∙ ap Err (sym e.2)) e.1
     (inr (subst (λ o. IsShown c.take_data.new.self (g.D.Disk.state c.take_data.new.disk).block (dos (new_takes 1 o) m)) (sym news.2) taken))
 
 pub write-requires-clause-lock : goal.write-requires-clause-lock
@@ -67,9 +69,10 @@ write-requires-clause-lock g c = subst (λ held. IsTrue (may_take (lock_answer h
 
 pub write-requires-clause-page : goal.write-requires-clause-page
 write-requires-clause-page g c =
-    let held = c.check_write.ensures.there in
+    let held = c.check_change.ensures.there in
     let far = subst (λ s. s.maps ≤ c.in_ok-x.x.0) (sym c.in_ok-x.ensures.shape) c.in_ok-x.ensures.page.1 in
-    page_passed c.take_data.new.self c.use_place.new.self c.in_ok-x.x held.0 3 c.in_ok-x.ensures.up c.in_ok-use_place.ensures.kept far held.1 (sym (c.check_write.ensures.tests held.0 held.1) ∙ c.in_ok-check_write.was)
+    let passed = page_fits c.take_data.new.self c.in_ok-x.x held.0 3 (length_refusal c.args.what.now (content held.0 (c.args.key.0 % 16))) (sym (c.check_change.ensures.tests held.0 held.1) ∙ c.in_ok-check_change.was) in
+    (held.0, page_stays c.take_data.new.self c.use_place.new.self c.in_ok-x.x held.0 c.in_ok-x.ensures.up c.in_ok-use_place.ensures.kept far held.1, passed.0, fits held.0 (c.args.key.0 % 16) c.args.what.now (suits_any c.args.what.now (content held.0 (c.args.key.0 % 16)) c.requires.suits) passed.1)
 
 pub returns-clause-step : goal.returns-clause-step
 returns-clause-step g c = λ told runs m none shown.
@@ -79,17 +82,18 @@ returns-clause-step g c = λ told runs m none shown.
     let place = c.in_ok-place.place in
     let at = subst (λ v. map ≡ map_number v.shape key) c.self.view_is c.map_page-map.ensures.at in
     let near = subst (λ v. map < v.shape.maps) c.self.view_is c.map_page-map.ensures.low in
-    let news = new_tests c.args.self.now (g.D.Disk.state c.args.disk.now).block shown.0 m shown.1 c.requires.up key place c.map_page-map.result there.0 c.args.t.node none at near there.1 (sym (c.new_place.ensures.is there.0 there.1) ∙ c.in_ok-place.was) in
+    let news = new_tests c.args.self.now (g.D.Disk.state c.args.disk.now).block shown.0 m shown.1 c.requires.up key place c.map_page-map.result there.0 c.args.t.node (length_refusal c.args.what.now (seen m c.args.t c.args.key.0)) none at near there.1 (sym (c.new_place.ensures.is there.0 there.1) ∙ c.in_ok-place.was) in
     let x = page_number c.args.self.now.shape map place in
     let m1 = one (Take x 1) m in
     let m2 = one (Use 1 map place (group_of key)) m1 in
     let taken = c.in_ok-x.ensures.shows told m shown in
     let page = c.in_ok-x.ensures.page in
-    let held = c.check_write.ensures.there in
+    let held = c.check_change.ensures.there in
     let far = subst (λ s. s.maps ≤ c.in_ok-x.x.0) (sym c.in_ok-x.ensures.shape) page.1 in
     let within = subst (λ s. c.in_ok-x.x.0 < page_count s) (sym c.in_ok-x.ensures.shape) page.2 in
-    let tests = write_tests c.take_data.new.self (g.D.Disk.state c.take_data.new.disk).block taken.0 m1 c.law_of_clusters.ensures taken.1 c.in_ok-x.ensures.up c.in_ok-x.x held.0 c.args.t.node 3 c.requires.node far within held.1 in
-    let asked : no_page m c.args.t.node key ≡ first_of (at_limit m c.in_ok-x.x.0 ∷ wants.no_room m c.args.t.node 3 ∷ []) = news.3 ∙ ap (λ k. first_of (at_limit m k ∷ wants.no_room m c.args.t.node 3 ∷ [])) (sym page.0) in
+    let tests = tested_new c.take_data.new.self (g.D.Disk.state c.take_data.new.disk).block m1 c.law_of_clusters.ensures taken c.in_ok-x.ensures.up c.args.t c.args.key place c.args.what.now c.in_ok-x.x held.0 c.requires.node none news.0 (news.2 ∙ ap Some (sym page.0)) far within held.1 in
+    let extra = length_refusal c.args.what.now (seen m c.args.t key) in
+    let asked : no_page m c.args.t.node key extra ≡ first_of (at_limit m c.in_ok-x.x.0 ∷ extra ∷ wants.no_room m c.args.t.node 3 ∷ []) = news.3 ∙ ap (λ k. first_of (at_limit m k ∷ extra ∷ wants.no_room m c.args.t.node 3 ∷ [])) (sym page.0) in
     let done = not_stopped c.write.result c.write.ensures.stopped runs in
     let used = c.in_ok-use_place.ensures.shows told m1 key none news.0 (sym c.group_of.ensures.group) news.1 taken in
     let used_so = subst (λ h. IsShown c.use_place.new.self (g.D.Disk.state c.use_place.new.disk).block (one (Use 1 map place h) m1)) c.group_of.ensures.group used in
@@ -99,9 +103,9 @@ returns-clause-step g c = λ told runs m none shown.
     let home_is : home m2 key ≡ Some c.in_ok-x.x.0 = subst (λ k. home (one (Use 1 k place (group_of key)) m1) key ≡ Some c.in_ok-x.x.0) news.1 (first ∙ number) in
     let b = (g.D.Disk.state c.write.new.disk).block in
     let written = of_done c.write.result done c.write.ensures.shows told m2 home_is used_so in
-    let whole = subst (λ n. IsShown c.write.new.self b (dos (Lock c.args.key c.args.t locks.Write ∷ Change c.args.t (record { key = key; page = n; value = Some c.args.value }) ∷ []) m2)) page.0 written in
-    was_done _ (no_page m c.args.t.node key) c.write.result (ap checked (asked ∙ tests) ∙ sym (c.check_write.ensures.tests held.0 held.1) ∙ c.in_ok-check_write.was) done
-    (subst (λ k. IsShown c.write.new.self b k) (sym (new_parts_are m c.args.t c.args.key c.args.value map place x c.requires.node none news.0 news.1 news.2)) whole)
+    let whole = subst (λ n. IsShown c.write.new.self b (dos (Lock c.args.key c.args.t locks.Write ∷ Change c.args.t (record { key = key; page = n; value = value_after c.args.what.now (seen m c.args.t key) }) ∷ []) m2)) page.0 written in
+    was_done _ (no_page m c.args.t.node key extra) c.write.result (ap checked (asked ∙ tests) ∙ sym (c.check_change.ensures.tests held.0 held.1) ∙ c.in_ok-check_change.was) done
+    (subst (λ k. IsShown c.write.new.self b k) (sym (new_parts_are m c.args.t c.args.key (value_after c.args.what.now (seen m c.args.t key)) map place x c.requires.node none news.0 news.1 news.2)) whole)
 
 -- ---- where all is in memory
 
@@ -113,8 +117,8 @@ returns-in_err-x-clause-memory g c = λ image shows free.
     let hit = c.take_data.ensures.hit can.0 in
     absurd (never c.take_data.result _ hit.0 c.in_err-x.was)
 
-pub returns-in_err-check_write-clause-memory : goal.returns-in_err-check_write-clause-memory
-returns-in_err-check_write-clause-memory g c = λ image shows free.
+pub returns-in_err-check_change-clause-memory : goal.returns-in_err-check_change-clause-memory
+returns-in_err-check_change-clause-memory g c = λ image shows free.
     let at = subst (λ v. c.map_page-map.result.0 ≡ map_number v.shape c.args.key.0) c.self.view_is c.map_page-map.ensures.at in
     let here = map_at_number c.args.self.now (map_number c.args.self.now.shape c.args.key.0) c.map_page-map.result image at shows in
     let can = free_at c.args.self.now c.args.key.0 c.map_page-map.result image c.in_ok-place.place at (sym (c.new_place.ensures.is image here) ∙ c.in_ok-place.was) free in
@@ -144,19 +148,19 @@ returns-clause-memory g c = λ image shows free.
 -- ---- why it isn't written
 
 -- there is no place
-no_place_for : (g : given.Over) (c : goal.After-from_residual g) → HasNoPage c.args.self.now c.args.key → (why : Reply) → why ≡ c.in_err-place.field-0.0 → IsRefusal c.args.self.now c.args.key why
+no_place_for : (g : given.Over) (c : goal.After-from_residual g) → HasNoPage c.args.self.now c.args.key → (why : Reply) → why ≡ c.in_err-place.field-0.0 → IsWriteRefusal c.args.self.now c.args.key c.args.what.now why
 no_place_for g c page why same =
     let there = c.new_place.ensures.there in
     let at = subst (λ v. c.map_page-map.result.0 ≡ map_number v.shape c.args.key.0) c.self.view_is c.map_page-map.ensures.at in
-    place_refused c.args.self.now c.args.key c.map_page-map.result there.0 why at there.1 page (sym (c.new_place.ensures.is there.0 there.1) ∙ c.in_err-place.was ∙ ap Err (sym same))
+    place_refused c.args.self.now c.args.key c.args.what.now c.map_page-map.result there.0 why at there.1 page (sym (c.new_place.ensures.is there.0 there.1) ∙ c.in_err-place.was ∙ ap Err (sym same))
 
 pub returns-in_err-place-clause-refused : goal.returns-in_err-place-clause-refused
-returns-in_err-place-clause-refused g c = λ page. passed_on c.from_residual.result _ (IsPutReason c.args.self.now c.args.key) c.from_residual.ensures.1 (λ why same. inl (no_place_for g c page why same))
+returns-in_err-place-clause-refused g c = λ page. passed_on c.from_residual.result _ (IsWriteReason c.args.self.now c.args.key c.args.what.now) c.from_residual.ensures.1 (λ why same. inl (no_place_for g c page why same))
 
 pub returns-in_err-place-clause-told : goal.returns-in_err-place-clause-told
 returns-in_err-place-clause-told g c = λ told page.
     passed_on c.from_residual.result _ (IsToldOfPages c.args.self.now.shape (contents (g.D.Disk.state c.args.disk.now).block)) c.from_residual.ensures.1
-    (λ why same. refusal_told c.args.self.now.shape (contents (g.D.Disk.state c.args.disk.now).block) c.args.self.now c.args.key why (no_place_for g c page why same))
+    (λ why same. refusal_told c.args.self.now.shape (contents (g.D.Disk.state c.args.disk.now).block) c.args.self.now c.args.key c.args.what.now why (no_place_for g c page why same))
 
 -- its page couldn't be taken
 pub returns-in_err-x-clause-refused : goal.returns-in_err-x-clause-refused
@@ -166,7 +170,7 @@ returns-in_err-x-clause-refused g c = λ page.
     let place = c.in_ok-place.place in
     let at = subst (λ v. map ≡ map_number v.shape c.args.key.0) c.self.view_is c.map_page-map.ensures.at in
     let fault : IsFaultFor s c.args.key c.in_err-x.field-0.0 = (record { 0 = page_number s map place }, inr (place, c.in_ok-place.ensures.place, ap (λ n. page_number s n place) at), c.in_err-x.ensures.fault) in
-    passed_on c.from_residual-in_err-x.result _ (IsPutReason c.take_data.new.self c.args.key) c.from_residual-in_err-x.ensures.1
+    passed_on c.from_residual-in_err-x.result _ (IsWriteReason c.take_data.new.self c.args.key c.args.what.now) c.from_residual-in_err-x.ensures.1
     (λ why same. inr (subst (IsFaultFor c.take_data.new.self.shape c.args.key) (sym same) (subst (λ t. IsFaultFor t c.args.key c.in_err-x.field-0.0) (sym c.take_data.ensures.shape) fault)))
 
 pub returns-in_err-x-clause-told : goal.returns-in_err-x-clause-told
@@ -175,9 +179,9 @@ returns-in_err-x-clause-told g c = λ told page.
     (λ why same. subst (IsToldOfPages c.args.self.now.shape (contents (g.D.Disk.state c.take_data.new.disk).block)) (sym same) (c.in_err-x.ensures.told told))
 
 -- the page is at its limit, or the log full
-not_written : (g : given.Over) (c : goal.After-from_residual-in_err-check_write g) → HasNoPage c.args.self.now c.args.key → (why : Reply) → why ≡ c.in_err-check_write.field-0.0 → IsRefusal c.take_data.new.self c.args.key why
+not_written : (g : given.Over) (c : goal.After-from_residual-in_err-check_change g) → HasNoPage c.args.self.now c.args.key → (why : Reply) → why ≡ c.in_err-check_change.field-0.0 → IsWriteRefusal c.take_data.new.self c.args.key c.args.what.now why
 not_written g c none why same =
-    let there = c.check_write.ensures.there in
+    let there = c.check_change.ensures.there in
     let map = c.map_page-map.result.0 in
     let place = c.in_ok-place.place in
     let at = subst (λ v. map ≡ map_number v.shape c.args.key.0) c.self.view_is c.map_page-map.ensures.at in
@@ -185,21 +189,21 @@ not_written g c none why same =
     let shows = c.in_ok-x.ensures.map none.0 (subst (λ n. ShowsMap c.args.self.now (record { 0 = n }) none.0) (sym at) none.1) in
     let number = at ∙ sym (ap (λ s. map_number s c.args.key.0) c.in_ok-x.ensures.shape) in
     let still : HasNoPage c.take_data.new.self c.args.key = (none.0, subst (λ n. ShowsMap c.take_data.new.self (record { 0 = n }) none.0) number shows, none.2) in
-    write_refused c.take_data.new.self c.args.key c.in_ok-x.x there.0 3 why (subst (λ s. IsPageFor s c.args.key c.in_ok-x.x) (sym c.in_ok-x.ensures.shape) page) there.1 (inr (refl, still))
-    (sym (c.check_write.ensures.tests there.0 there.1) ∙ c.in_err-check_write.was ∙ ap Err (sym same))
+    write_refused c.take_data.new.self c.args.key c.args.what.now c.in_ok-x.x there.0 3 why (subst (λ s. IsPageFor s c.args.key c.in_ok-x.x) (sym c.in_ok-x.ensures.shape) page) there.1 (inr (refl, still))
+    (sym (c.check_change.ensures.tests there.0 there.1) ∙ c.in_err-check_change.was ∙ ap Err (sym same))
 
-pub returns-in_err-check_write-clause-refused : goal.returns-in_err-check_write-clause-refused
-returns-in_err-check_write-clause-refused g c = λ page. passed_on c.from_residual-in_err-check_write.result _ (IsPutReason c.take_data.new.self c.args.key) c.from_residual-in_err-check_write.ensures.1 (λ why same. inl (not_written g c page why same))
+pub returns-in_err-check_change-clause-refused : goal.returns-in_err-check_change-clause-refused
+returns-in_err-check_change-clause-refused g c = λ page. passed_on c.from_residual-in_err-check_change.result _ (IsWriteReason c.take_data.new.self c.args.key c.args.what.now) c.from_residual-in_err-check_change.ensures.1 (λ why same. inl (not_written g c page why same))
 
-pub returns-in_err-check_write-clause-told : goal.returns-in_err-check_write-clause-told
-returns-in_err-check_write-clause-told g c = λ told page.
-    passed_on c.from_residual-in_err-check_write.result _ (IsToldOfPages c.args.self.now.shape (contents (g.D.Disk.state c.take_data.new.disk).block)) c.from_residual-in_err-check_write.ensures.1
-    (λ why same. refusal_told c.args.self.now.shape (contents (g.D.Disk.state c.take_data.new.disk).block) c.take_data.new.self c.args.key why (not_written g c page why same))
+pub returns-in_err-check_change-clause-told : goal.returns-in_err-check_change-clause-told
+returns-in_err-check_change-clause-told g c = λ told page.
+    passed_on c.from_residual-in_err-check_change.result _ (IsToldOfPages c.args.self.now.shape (contents (g.D.Disk.state c.take_data.new.disk).block)) c.from_residual-in_err-check_change.ensures.1
+    (λ why same. refusal_told c.args.self.now.shape (contents (g.D.Disk.state c.take_data.new.disk).block) c.take_data.new.self c.args.key c.args.what.now why (not_written g c page why same))
 
 -- the node stopped
 pub returns-in_err-use_place-clause-refused : goal.returns-in_err-use_place-clause-refused
 returns-in_err-use_place-clause-refused g c = λ page.
-    passed_on c.from_residual-in_err-use_place.result _ (IsPutReason c.use_place.new.self c.args.key) c.from_residual-in_err-use_place.ensures.1
+    passed_on c.from_residual-in_err-use_place.result _ (IsWriteReason c.use_place.new.self c.args.key c.args.what.now) c.from_residual-in_err-use_place.ensures.1
     (λ why same. inr (stop_fault c.use_place.new.self.shape c.args.key why (subst (λ r. says_stop r ≡ true) (sym same) c.in_err-use_place.ensures.stopped)))
 
 pub returns-in_err-use_place-clause-told : goal.returns-in_err-use_place-clause-told
@@ -208,7 +212,18 @@ returns-in_err-use_place-clause-told g c = λ told page.
     (λ why same. stop_told c.args.self.now.shape (contents (g.D.Disk.state c.use_place.new.disk).block) why (subst (λ r. says_stop r ≡ true) (sym same) c.in_err-use_place.ensures.stopped))
 
 pub returns-clause-refused : goal.returns-clause-refused
-returns-clause-refused g c = λ page. error_then c.write.result (λ why. says_stop why ≡ true) (IsPutReason c.write.new.self c.args.key) c.write.ensures.stopped (λ why stops. inr (stop_fault c.write.new.self.shape c.args.key why stops))
+returns-clause-refused g c = λ page. error_then c.write.result (λ why. says_stop why ≡ true) (IsWriteReason c.write.new.self c.args.key c.args.what.now) c.write.ensures.stopped (λ why stops. inr (stop_fault c.write.new.self.shape c.args.key why stops))
 
 pub returns-clause-told : goal.returns-clause-told
 returns-clause-told g c = λ told page. error_then c.write.result (λ why. says_stop why ≡ true) (IsToldOfPages c.args.self.now.shape (contents (g.D.Disk.state c.write.new.disk).block)) c.write.ensures.stopped (stop_told c.args.self.now.shape (contents (g.D.Disk.state c.write.new.disk).block))
+
+-- ---- the outcomes, behind all calls
+
+pub returns-in_err-use_place-clause-besides : goal.returns-in_err-use_place-clause-besides
+returns-in_err-use_place-clause-besides g c = λ told.
+    besides_then c.args.self.now.shape c.take_data.new.self.shape (g.D.Disk.state c.args.disk.now).block (g.D.Disk.state c.take_data.new.disk).block (g.D.Disk.state c.use_place.new.disk).block c.take_data.ensures.shape (c.take_data.ensures.besides told) (c.use_place.ensures.besides told)
+
+pub returns-clause-besides : goal.returns-clause-besides
+returns-clause-besides g c = λ told.
+    let used = besides_then c.args.self.now.shape c.take_data.new.self.shape (g.D.Disk.state c.args.disk.now).block (g.D.Disk.state c.take_data.new.disk).block (g.D.Disk.state c.use_place.new.disk).block c.take_data.ensures.shape (c.take_data.ensures.besides told) (c.use_place.ensures.besides told) in
+    besides_then c.args.self.now.shape c.use_place.new.self.shape (g.D.Disk.state c.args.disk.now).block (g.D.Disk.state c.use_place.new.disk).block (g.D.Disk.state c.write.new.disk).block (c.use_place.ensures.shape ∙ c.take_data.ensures.shape) used (c.write.ensures.besides told)

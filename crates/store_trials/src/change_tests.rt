@@ -1,0 +1,149 @@
+use crate::trial::{expect, expect_anew, repeated};
+use crate::{Faults, FaultyDisk};
+use disk_model::MemDisk;
+use page_image::write_birth;
+use sd_base::{Block, BlockNo, PageNo};
+use std::test::Fail;
+
+// A store of one node that is up and has a transaction.
+const BEGUN: &str = "format 1 8 1 8 0\nstart 1\nbegin 1.0\n";
+
+#[test]
+fn what_a_change_leaves(rt: HostRuntime) -> Result<(), Fail> {
+    for (script, transcript) in [
+        // An absent record counts as empty.
+        (
+            "append 1.0 5 a\nappend 1.0 5 bc\nget 1.0 5\n",
+            "ok\nok\nvalue abc\n",
+        ),
+        (
+            "put 1.0 5 a\nappend 1.0 5 b\nput 1.0 5 c\nappend 1.0 5 d\ncommit 1.0\nbegin 1.1\nget 1.1 5\n",
+            "ok\nok\nok\nok\nok\nok\nvalue cd\n",
+        ),
+        // A deleted record is absent; one that is absent stays so, and is locked.
+        (
+            "put 1.0 5 a\ndel 1.0 5\nget 1.0 5\ndel 1.0 5\nappend 1.0 5 b\nget 1.0 5\n",
+            "ok\nok\nabsent\nabsent\nok\nvalue b\n",
+        ),
+        (
+            "put 1.0 5 a\ncommit 1.0\nbegin 1.0\ndel 1.0 5\ncommit 1.0\nbegin 1.0\nget 1.0 5\n",
+            "ok\nok\nok\nok\nok\nok\nabsent\n",
+        ),
+        (
+            "del 1.0 5\nbegin 1.1\nget 1.1 5\ndel 1.0 4031\nput 1.1 4031 a\nput 1.1 6 a\n",
+            "absent\nok\nlocked 1.0\nabsent\nlocked 1.0\nok\n",
+        ),
+    ] {
+        let script = format!(in rt.alloc(); "{BEGUN}{script}")?;
+        let transcript = format!(in rt.alloc(); "ok\nok\nok\n{transcript}")?;
+        expect_anew(&rt, script.as_str(), transcript.as_str())?;
+    }
+    Ok(())
+}
+
+#[test]
+fn a_record_that_would_be_too_long(rt: HostRuntime) -> Result<(), Fail> {
+    let alloc = rt.alloc();
+    let longest = repeated(alloc, "a", 248)?;
+    let script = format!(in alloc;
+        "{BEGUN}put 1.0 5 {longest}\nappend 1.0 5 b\nput 1.0 5 a{longest}\nappend 1.0 5 {longest}\nappend 1.0 6 {longest}\nget 1.0 5\n"
+    )?;
+    let transcript = format!(in alloc;
+        "ok\nok\nok\nok\ntoolong 249\nbad\ntoolong 496\nok\nvalue {longest}\n"
+    )?;
+    expect_anew(&rt, script.as_str(), transcript.as_str())
+}
+
+#[test]
+fn what_a_full_log_has_room_for(rt: HostRuntime) -> Result<(), Fail> {
+    // 24 records: a begin and its end, a use of a place, and ten updates with what takes them back. A
+    // record that isn't there is deleted without one; one that is too long is refused for that.
+    let alloc = rt.alloc();
+    let longest = repeated(alloc, "b", 248)?;
+    let puts =
+        "put 1.0 0 v\nput 1.0 1 v\nput 1.0 2 v\nput 1.0 3 v\nput 1.0 4 v\nput 1.0 5 v\nput 1.0 6 v\nput 1.0 7 v\nput 1.0 8 v\nput 1.0 9 v\n";
+    let script = format!(in alloc;
+        "format 1 4 1 8 0\nstart 1\nbegin 1.0\n{puts}put 1.0 10 v\nstat 1\nappend 1.0 0 v\nappend 1.0 0 {longest}\ndel 1.0 0\ndel 1.0 10\ncommit 1.0\nstat 1\n"
+    )?;
+    let done = repeated(alloc, "ok\n", 13)?;
+    let transcript = format!(in alloc;
+        "{done}logfull 2 1\nstat up 12 11 1\nlogfull 2 1\ntoolong 249\nlogfull 2 1\nabsent\nok\nstat up 13 0 11\n"
+    )?;
+    expect_anew(&rt, script.as_str(), transcript.as_str())
+}
+
+#[test]
+fn a_page_at_its_limit(rt: HostRuntime) -> Result<(), Fail> {
+    // The first data page, in block 11, takes one more change.
+    let mut block: Block = [0; 4096];
+    write_birth(PageNo(1), (1 << 63) - 1, &mut block);
+    let wrong = Faults {
+        replaced: Some((BlockNo(11), Some(block))),
+        ..Faults::NONE
+    };
+    let mut disk = FaultyDisk::new(rt.alloc(), 263, wrong)?;
+    let mut vault = MemDisk::new(rt.alloc(), 263)?;
+    let longest = repeated(rt.alloc(), "b", 248)?;
+    let script = format!(in rt.alloc();
+        "{BEGUN}append 1.0 5 a\nappend 1.0 5 a\nappend 1.0 5 {longest}\ndel 1.0 5\ndel 1.0 6\nget 1.0 5\n"
+    )?;
+    let transcript = "ok\nok\nok\nok\nlimit 1\nlimit 1\nlimit 1\nabsent\nvalue a\n";
+    expect(&rt, &mut disk, &mut vault, script.as_str(), transcript)
+}
+
+#[test]
+fn what_is_told_of_a_node(rt: HostRuntime) -> Result<(), Fail> {
+    // Of the log's 48 records: used, owed and free.
+    for (script, transcript) in [
+        (
+            "format 1 8 1 8 0\nstat 1\nstart 1\nstat 1\nbegin 1.0\nstat 1\n",
+            "ok\nstat idle\nok\nstat up 0 0 48\nok\nstat up 1 1 46\n",
+        ),
+        (
+            "format 1 8 1 8 0\nstart 1\nbegin 1.0\nput 1.0 5 a\nstat 1\nappend 1.0 5 b\nstat 1\ndel 1.0 6\nstat 1\ndel 1.0 5\nstat 1\ncommit 1.0\nstat 1\n",
+            "ok\nok\nok\nok\nstat up 3 2 43\nok\nstat up 4 3 41\nabsent\nstat up 4 3 41\nok\nstat up 5 4 39\nok\nstat up 6 0 42\n",
+        ),
+    ] {
+        expect_anew(&rt, script, transcript)?;
+    }
+    Ok(())
+}
+
+#[test]
+fn how_many_pages_a_flush_writes(rt: HostRuntime) -> Result<(), Fail> {
+    // The map page and the group's page; then the page of another group with the map page, or one page
+    // alone; and none, once nothing has changed since.
+    let script = format!(in rt.alloc();
+        "{BEGUN}flush 1\nput 1.0 5 a\nflush 1\nflush 1\nput 1.0 21 b\nflush 1\nappend 1.0 5 b\nget 1.0 21\nflush 1\ncommit 1.0\nflush 1\nbegin 1.0\nget 1.0 5\n"
+    )?;
+    let transcript =
+        "ok\nok\nok\nflushed 0\nok\nflushed 2\nflushed 0\nok\nflushed 2\nok\nvalue b\nflushed 1\nok\nflushed 0\nok\nvalue ab\n";
+    expect_anew(&rt, script.as_str(), transcript)
+}
+
+#[test]
+fn a_stop_and_a_failure_in_a_flush(rt: HostRuntime) -> Result<(), Fail> {
+    // Behind the 268 calls of `format` and `start`, and the two pages that are read: the block of the log
+    // is written and covered, and then each of the two pages.
+    let script = format!(in rt.alloc(); "{BEGUN}put 1.0 5 a\nflush 1\nstat 1\nflush 1\n")?;
+    for call in [271, 272, 273, 274, 275, 276] {
+        for (stop_at, fail_at, reply) in [(call, 0, "stopped 1\n"), (0, call, "fault 1\n")] {
+            let wrong = Faults {
+                replaced: None,
+                stop_at,
+                fail_at,
+            };
+            let mut disk = FaultyDisk::new(rt.alloc(), 263, wrong)?;
+            let mut vault = MemDisk::new(rt.alloc(), 263)?;
+            let transcript = format!(in rt.alloc(); "ok\nok\nok\nok\n{reply}stat down\nnotup 1\n")?;
+            expect(
+                &rt,
+                &mut disk,
+                &mut vault,
+                script.as_str(),
+                transcript.as_str(),
+            )?;
+        }
+    }
+    Ok(())
+}
