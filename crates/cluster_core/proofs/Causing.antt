@@ -270,10 +270,10 @@ module _ (d d' : DiskState) (c : ClusterState) where
   known_then (asks.Append t key bytes) = access_then t key modes.Write
   known_then (asks.Del t key) = access_then t key modes.Write
   known_then (asks.Commit t) = up_then t.node (no_txn c t ∷ []) (first_then Caused (no_txn c t) [] (where_then Caused (not (has_txn c.node t)) (says.NotTxn t) tt) tt)
+  known_then (asks.Abort t) = up_then t.node (no_txn c t ∷ []) (first_then Caused (no_txn c t) [] (where_then Caused (not (has_txn c.node t)) (says.NotTxn t) tt) tt)
   known_then (asks.Flush n) = up_then n [] tt
   known_then (asks.Stat n) = where_then Caused (nat_lt c.shape.nodes n.0) (says.NoNode n) tt
   known_then asks.Bad = tt
-  known_then (asks.Abort t) = tt
   known_then (asks.Dump n) = tt
 
   pub known_cause : (command : Command) (why : Reply) → known c command ≡ Some why → HasCause why d d'

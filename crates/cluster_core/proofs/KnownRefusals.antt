@@ -131,6 +131,9 @@ module _ (c : ClusterState) (b : ℕ → BlockState) (p : Plain) (m : Machine) (
   pub known_commit : (t : TxnId) → IsTxn t → wants.refusal m (asks.Commit t) ≡ known.known c (asks.Commit t)
   known_commit t range = txn_first t [] [] range (λ one up. refl)
 
+  pub known_abort : (t : TxnId) → IsTxn t → wants.refusal m (asks.Abort t) ≡ known.known c (asks.Abort t)
+  known_abort t range = txn_first t [] [] range (λ one up. refl)
+
   -- a change of a record is refused for the last reason behind all that
   pub known_change : (t : TxnId) (key : Key) (last : Option Reply) → IsTxn t
       → first_of (wants.no_node m t.node ∷ wants.not_up m t.node ∷ wants.no_txn m t ∷ wants.no_lock m key t locks.Write ∷ last ∷ []) ≡ first_of (known.no_node c t.node ∷ known.not_up c t.node ∷ known.no_txn c t ∷ known.no_lock c key t locks.Write ∷ last ∷ [])

@@ -1,4 +1,4 @@
--- What a cluster shows after a transaction was committed.
+-- What a cluster shows after a transaction was ended, committed or given up.
 use Rattle.std.specs.Prelude.{◌≡◌, ◌≢◌, ◌==◌, ◌*◌, ◌<◌, ◌≤◌, ◌++◌, ◌∷◌, [], ℕ, Bool, true, false, not, List, Option, Some, None, All, IfSome, IsTrue, is_some, filter, length, map, slice_index_or, slice_set, refl}
 use Rattle.std.proofs.Common.{arith, inl, inr, ap, subst, sym, ◌∙◌}
 use Rattle.std.proofs.lemmas.Bool.{cases_eq}
@@ -8,7 +8,7 @@ use Rattle.std.proofs.lemmas.List.Elements.{All-filter}
 use Rattle.sd_base.specs.Disk.{BlockState}
 use Rattle.sd_base.specs.declared.names.TxnId.{TxnId}
 use Rattle.sd_base.specs.declared.shape.Shape.{Shape}
-use Rattle.log_record.specs.declared.record.LogRecord.TheVariants.{Commit}
+use Rattle.log_record.specs.declared.record.LogRecord.{LogRecord}
 use Rattle.private_log.specs.Frames.{NarrowsBeside}
 use Rattle.private_log.specs.Log.{SameLog, next_place}
 use Rattle.compensation.specs.Left.{is_update_of, next_after}
@@ -54,36 +54,36 @@ txn_of seats seat busy = by (txn_in seats seat) refl busy
     by None is some = cc
     by (Some txn) is some = (txn, is)
 
-module _ (s : Shape) (pool : List (Option (List ℕ))) (c d : CacheState) (seats after : SeatsState) (b b' : ℕ → BlockState) (p : Plain) (m : Machine) (t : TxnId) (txn : OpenTxn) where
+module _ (s : Shape) (pool : List (Option (List ℕ))) (c d : CacheState) (seats after : SeatsState) (b b' : ℕ → BlockState) (p : Plain) (m : Machine) (t : TxnId) (rec : LogRecord) (alone : (k : ℕ) → (is_update_of k rec ≡ false) × (next_after k rec ≡ None)) where
   -- the numbers of each seat's records
-  committed_deeds : t.seat < length seats.seats → after.seats ≡ slice_set seats.seats t.seat None → ShowsUp s pool 1 c seats b p m
-      → (seat : ℕ) → seat < 8 → map (λ (e : Deed). e.number) (deeds_in seat (but_seat t.seat (m.pending 1))) ≡ numbers_of (6 * c.log.start) (p.live 1 ++ Commit txn.begin txn.last ∷ []) (txn_in after seat)
-  committed_deeds within new was seat low = elim (cases_eq t.seat seat) [
+  ended_deeds : t.seat < length seats.seats → after.seats ≡ slice_set seats.seats t.seat None → ShowsUp s pool 1 c seats b p m
+      → (seat : ℕ) → seat < 8 → map (λ (e : Deed). e.number) (deeds_in seat (but_seat t.seat (m.pending 1))) ≡ numbers_of (6 * c.log.start) (p.live 1 ++ rec ∷ []) (txn_in after seat)
+  ended_deeds within new was seat low = elim (cases_eq t.seat seat) [
     | inl here ↦
         let free : txn_in after t.seat ≡ None = ap (λ os. slice_index_or os t.seat None) new ∙ get_or-set_same seats.seats t.seat None None within in
-        subst (λ k. map (λ (e : Deed). e.number) (deeds_in k (but_seat t.seat (m.pending 1))) ≡ numbers_of (6 * c.log.start) (p.live 1 ++ Commit txn.begin txn.last ∷ []) (txn_in after k)) here
-        (ap (map (λ (e : Deed). e.number)) (deeds_gone t.seat (m.pending 1)) ∙ ap (numbers_of (6 * c.log.start) (p.live 1 ++ Commit txn.begin txn.last ∷ [])) (sym free))
+        subst (λ k. map (λ (e : Deed). e.number) (deeds_in k (but_seat t.seat (m.pending 1))) ≡ numbers_of (6 * c.log.start) (p.live 1 ++ rec ∷ []) (txn_in after k)) here
+        (ap (map (λ (e : Deed). e.number)) (deeds_gone t.seat (m.pending 1)) ∙ ap (numbers_of (6 * c.log.start) (p.live 1 ++ rec ∷ [])) (sym free))
     | inr other ↦
         let same : txn_in after seat ≡ txn_in seats seat = ap (λ os. slice_index_or os seat None) new ∙ get_or-set_other seats.seats t.seat seat None None (λ e. other (sym e)) in
         ap (map (λ (e : Deed). e.number)) (deeds_stay t.seat seat (m.pending 1) (λ e. other (sym e)))
         ∙ was.deeds seat low
-        ∙ sym (numbers-other (6 * c.log.start) (p.live 1) (Commit txn.begin txn.last) (txn_in seats seat) (none_of (txn_in seats seat)))
-        ∙ ap (numbers_of (6 * c.log.start) (p.live 1 ++ Commit txn.begin txn.last ∷ [])) (sym same)
+        ∙ sym (numbers-other (6 * c.log.start) (p.live 1) rec (txn_in seats seat) (none_of (txn_in seats seat)))
+        ∙ ap (numbers_of (6 * c.log.start) (p.live 1 ++ rec ∷ [])) (sym same)
   ]
     where
-      none_of : (o : Option OpenTxn) → IfSome o (λ u. (is_update_of u.begin (Commit txn.begin txn.last) ≡ false) × (next_after u.begin (Commit txn.begin txn.last) ≡ None))
+      none_of : (o : Option OpenTxn) → IfSome o (λ u. (is_update_of u.begin rec ≡ false) × (next_after u.begin rec ≡ None))
       none_of None = tt
-      none_of (Some u) = (refl, refl)
+      none_of (Some u) = alone u.begin
 
   -- the deeds of the node, which is node 1
   deeds_left : t.node.0 ≡ 1 → (dos (Seal t ∷ Unlock t ∷ []) m).pending 1 ≡ but_seat t.seat (m.pending 1)
   deeds_left node = ap (λ k. put k (but_seat t.seat (m.pending k)) m.pending 1) node
 
-  pub up_committed : length seats.seats ≡ 8 → IsOfStore s c → IsTiedToLog c → t.node.0 ≡ 1 → t.seat ≤ 7 → d.node ≡ c.node → d.pages ≡ c.pages → SameLog c.log d.log → NarrowsBeside (next_place c.log) b b'
-      → after.seats ≡ slice_set seats.seats t.seat None → HasRecords d.log b' (p.live 1 ++ Commit txn.begin txn.last ∷ []) → AreTold after c.log.start (p.live 1 ++ Commit txn.begin txn.last ∷ []) → ShowsUp s pool 1 c seats b p m
-      → ShowsUp s pool 1 d after b' (logged 1 (Commit txn.begin txn.last) p) (dos (Seal t ∷ Unlock t ∷ []) m)
-  up_committed count store tie one_node seat node pages same narrows new records told was =
+  pub up_ended : length seats.seats ≡ 8 → IsOfStore s c → IsTiedToLog c → t.node.0 ≡ 1 → t.seat ≤ 7 → d.node ≡ c.node → d.pages ≡ c.pages → SameLog c.log d.log → NarrowsBeside (next_place c.log) b b'
+      → after.seats ≡ slice_set seats.seats t.seat None → HasRecords d.log b' (p.live 1 ++ rec ∷ []) → AreTold after c.log.start (p.live 1 ++ rec ∷ []) → ShowsUp s pool 1 c seats b p m
+      → ShowsUp s pool 1 d after b' (logged 1 rec p) (dos (Seal t ∷ Unlock t ∷ []) m)
+  up_ended count store tie one_node seat node pages same narrows new records told was =
       let deeds = deeds_left one_node in
-      up_logged s pool c d seats after b b' p m (dos (Seal t ∷ Unlock t ∷ []) m) (Commit txn.begin txn.last) store tie node pages same refl narrows records told
-      (λ k low. ap (λ ds. map (λ (e : Deed). e.number) (deeds_in k ds)) deeds ∙ committed_deeds (omega (arith, seat, count)) new was k low)
+      up_logged s pool c d seats after b b' p m (dos (Seal t ∷ Unlock t ∷ []) m) rec store tie node pages same refl narrows records told
+      (λ k low. ap (λ ds. map (λ (e : Deed). e.number) (deeds_in k ds)) deeds ∙ ended_deeds (omega (arith, seat, count)) new was k low)
       (subst (All (λ (e : Deed). e.seat < 8)) (sym deeds) (All-filter (λ (e : Deed). not (e.seat == t.seat)) (λ (e : Deed). e.seat < 8) (m.pending 1) was.within)) was

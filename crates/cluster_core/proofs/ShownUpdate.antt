@@ -46,7 +46,7 @@ use Rattle.cluster_core.proofs.ShownLogged.{length_shown, tail_shown}
 -- ---- the page and its record
 
 -- a slot holds what was put there, and each other one what it held
-put_slot : (v : PageView) (slot : ℕ) (after : Option (List ℕ)) → slot < length v.slots → IsChangedAt slot after v (with_put slot after v)
+pub put_slot : (v : PageView) (slot : ℕ) (after : Option (List ℕ)) → slot < length v.slots → IsChangedAt slot after v (with_put slot after v)
 put_slot v slot after low = record {
   page = refl;
   ident = refl;

@@ -22,7 +22,7 @@ use Rattle.cluster_core.specs.Cluster.{ClusterState, IsCluster}
 use Rattle.cluster_core.specs.Known.{checked, known, no_lock, no_node, no_txn, not_idle, not_up, state_of}
 use Rattle.cluster_core.specs.Ports.{says_stop}
 use Rattle.cluster_core.specs.Shows.{IsShown, ShowsStore}
-use Rattle.cluster_core.proofs.KnownRefusals.{known_begin, known_change, known_commit, known_flush, known_get, known_start, known_stat, one_or_none, told_node}
+use Rattle.cluster_core.proofs.KnownRefusals.{known_abort, known_begin, known_change, known_commit, known_flush, known_get, known_start, known_stat, one_or_none, told_node}
 use Rattle.cluster_core.proofs.WriteTests.{not_stopped}
 use Rattle.cluster_core.proofs.Testing.{passed}
 
@@ -70,7 +70,7 @@ known_is c b p m (asks.Commit t) why is shown range so = known_commit c b p m is
 known_is c b p m asks.Bad why is shown range so = so
 known_is c b p m (asks.Flush n) why is shown range so = known_flush c b p m is shown n range ∙ so
 known_is c b p m (asks.Stat n) why is shown range so = known_stat c b p m is shown n ∙ so
-known_is c b p m (asks.Abort t) why is shown range so = so
+known_is c b p m (asks.Abort t) why is shown range so = known_abort c b p m is shown t range ∙ so
 known_is c b p m (asks.Dump n) why is shown range so = so
 
 -- ---- what goes on
@@ -190,6 +190,12 @@ module _ (c : ClusterState) (b : ℕ → BlockState) (m : Machine) (is : IsClust
         let node = stat_node c is.one n (subst InRange same range) so in
         subst (λ k. Step m k r S) (sym same)
         (done_step m (asks.Stat n) r S (known_stat c b shown.0 m is shown.1 n ∙ so) (subst (TellsNode m n.0) (sym says) (told_node c b shown.0 m is shown.1 n.0 node)) holds)
+
+    pub abort_step : (t : TxnId) (r : Result (Unit {0}) Reply) → command ≡ asks.Abort t → says_stop (reply_of r) ≡ false → IfErr r (λ why. says_stop why ≡ true) → OnOk r (S (dos (parts m (asks.Abort t)) m)) → Step m command (reply_of r) S
+    abort_step t r same runs stops holds =
+        let so = none_of command (asks.Abort t) tests same are done in
+        subst (λ k. Step m k (reply_of r) S) (sym same)
+        (done_step m (asks.Abort t) (reply_of r) S (known_abort c b shown.0 m is shown.1 t (subst InRange same range) ∙ so) (ap reply_of (not_stopped r stops runs)) (of_done_call r stops runs holds))
 
     pub commit_step : (t : TxnId) (r : Result (Unit {0}) Reply) → command ≡ asks.Commit t → says_stop (reply_of r) ≡ false → IfErr r (λ why. says_stop why ≡ true) → OnOk r (S (dos (Seal t ∷ Unlock t ∷ []) m)) → Step m command (reply_of r) S
     commit_step t r same runs stops holds =

@@ -9,6 +9,8 @@ use Rattle.space_map.specs.Entry.{is_free, is_used_by}
 use Rattle.space_map.specs.Image.{MapImage}
 use Rattle.compensation.specs.Inverse.{content}
 use Rattle.private_log.specs.Content.{region_of}
+use Rattle.private_log.specs.Reading.{IsInRegion}
+use Rattle.sd_base.specs.Shape.{page_count}
 use Rattle.state_ids.specs.Blocks.{HoldsPage, page_place}
 use Rattle.state_ids.specs.PageImage.{PageImage}
 use Rattle.script_text.specs.declared.command.Command.{Command}
@@ -79,6 +81,17 @@ IsWriteRefusal c key what reply = ⊥
 abbrev pub IsWriteReason : ClusterState → Key → Change → Reply → Type 0
 IsWriteReason c key what reply = IsWriteRefusal c key what reply ⊎ IsFaultFor c.shape key reply
 
+-- ---- what an abort meets
+
+-- the node stopped, of which HasCause says the rest, a page of the store is lost or its block is damaged, or a block of
+-- the log is
+abbrev pub IsAbortFault : Shape → Reply → Type 0
+IsAbortFault s (says.Stopped n) = ⊤
+IsAbortFault s (says.Fault n) = ⊤
+IsAbortFault s (says.LostPage x) = x.0 < page_count s
+IsAbortFault s (says.DamagedDisk at) = IsInRegion (region_of s 1) at.0 ⊎ ((x : PageNo) × (x.0 < page_count s) × (at.0 ≡ page_place s x))
+IsAbortFault s reply = ⊥
+
 -- ---- what is found
 
 -- What the node has in memory says so of the record: its group has no page, or the page shows it, or that there is none.
@@ -97,11 +110,14 @@ IsAnswer c (asks.Put t key value) reply = (reply ≡ says.Fine) ⊎ IsWriteReaso
 IsAnswer c (asks.Append t key bytes) reply = (reply ≡ says.Fine) ⊎ IsWriteReason c key (Append bytes) reply
 IsAnswer c (asks.Del t key) reply = (reply ≡ says.Fine) ⊎ ((reply ≡ says.Absent) × IsFoundIn c key None) ⊎ IsWriteReason c key Delete reply
 IsAnswer c (asks.Commit t) reply = (reply ≡ says.Fine) ⊎ (says_stop reply ≡ true)
+IsAnswer c (asks.Abort t) reply = (reply ≡ says.Fine) ⊎ IsAbortFault c.shape reply
 IsAnswer c (asks.Flush n) reply = TellsFlush reply ⊎ (says_stop reply ≡ true)
 IsAnswer c (asks.Stat n) reply = reply ≡ state_of c.node
 IsAnswer c command reply = ⊥
 
--- what the blocks hold of which the answer says that they are lost or damaged: those of the log, at a start, or of pages
+-- What the blocks hold of which the answer says that they are lost or damaged: those of the log, at a start, or of pages.
+-- What is told in an abort hangs on more than the blocks (IsToldOfAbort).
 abbrev pub IsToldIn : Shape → (ℕ → Option (List ℕ)) → Command → Reply → Type 0
 IsToldIn s image (asks.Start n) reply = IsToldDamaged (region_of s 1) image reply
+IsToldIn s image (asks.Abort t) reply = ⊤
 IsToldIn s image command reply = IsToldOfPages s image reply

@@ -12,9 +12,10 @@ use Rattle.script_text.specs.declared.reply.Reply.{Reply}
 use Rattle.script_text.specs.declared.reply.Reply.TheVariants.{Limit, NoSpace}
 use Rattle.record_machine.specs.Commands.{joined, too_long}
 use Rattle.node_cache.specs.Cache.{CachedPage, CacheState, has_changes, page_at}
-use Rattle.txn_core.specs.Seats.{SeatsState}
+use Rattle.txn_core.specs.Seats.{OpenTxn, SeatsState, txn_in}
 use Rattle.txn_core.specs.Updates.{HasPage}
 use Rattle.txn_core.specs.declared.change.Change.{Change}
+use Rattle.cluster_core.specs.declared.node.Node.{Node}
 use Rattle.cluster_core.specs.Cluster.{ClusterState}
 use Rattle.cluster_core.specs.Ports.{OnUp}
 use Rattle.txn_core.specs.declared.change.Change.TheVariants.{Put, Append, Delete}
@@ -67,6 +68,14 @@ place_or why (Some place) = Ok place
 
 abbrev pub new_place : PageNo → MapImage → Result ℕ Reply
 new_place map image = if nat_le (2 ^ 63) image.ident then Err (Limit map) else place_or (NoSpace map) (position is_free image.entries)
+
+-- the transactions are those that they were, where both nodes are up
+abbrev pub KeepsSeats : Node → Node → Type 0
+KeepsSeats old new = OnUp old (λ c before. OnUp new (λ d after. after ≡ before))
+
+-- the transaction in the seat has one update less that is left
+abbrev pub LeavesLess : ℕ → SeatsState → SeatsState → Type 0
+LeavesLess seat old new = (t u : OpenTxn) → txn_in old seat ≡ Some t → txn_in new seat ≡ Some u → u.left + 1 ≡ t.left
 
 -- the cache has the pages that it had, with the changes that it had made of them
 abbrev pub KeepsPages : CacheState → CacheState → Type 0

@@ -78,7 +78,7 @@ known c (asks.Append t key bytes) = first_of (no_node c t.node ∷ not_up c t.no
 known c (asks.Del t key) = first_of (no_node c t.node ∷ not_up c t.node ∷ no_txn c t ∷ no_lock c key t locks.Write ∷ [])
 known c (asks.Flush n) = first_of (no_node c n ∷ not_up c n ∷ [])
 known c (asks.Stat n) = no_node c n
-known c (asks.Abort t) = Some says.Bad
+known c (asks.Abort t) = first_of (no_node c t.node ∷ not_up c t.node ∷ no_txn c t ∷ [])
 known c (asks.Dump n) = Some says.Bad
 
 -- what is told of the node: of one that is up how many records its log has, how many its transactions may still need,

@@ -27,10 +27,10 @@ impl Cluster {
             Command::Put(t, key, _) | Command::Append(t, key, _) | Command::Del(t, key) => {
                 self.check_access(t, key, Mode::Write)
             }
-            Command::Commit(t) => self.check_txn(t),
+            Command::Commit(t) | Command::Abort(t) => self.check_txn(t),
             Command::Flush(n) => self.check_up(n),
             Command::Stat(n) => self.check_node(n),
-            Command::Bad | Command::Abort(_) | Command::Dump(_) => Err(Reply::Bad),
+            Command::Bad | Command::Dump(_) => Err(Reply::Bad),
         }
     }
 

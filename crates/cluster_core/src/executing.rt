@@ -7,6 +7,7 @@ ghost use Rattle.record_machine.specs.Commands.{Step};
 ghost use Rattle.record_machine.specs.Machine.{Machine};
 ghost use Rattle.cluster_core.specs.Answering.{reply_deleted, reply_flushed, reply_found, reply_of};
 ghost use Rattle.private_log.specs.Reading.{contents};
+ghost use Rattle.cluster_core.specs.Aborts.{IsToldOfAbort};
 ghost use Rattle.cluster_core.specs.Causes.{IsAnswer, IsToldIn};
 ghost use Rattle.cluster_core.specs.Changes.{WritesBack};
 ghost use Rattle.cluster_core.specs.Footprint.{IsAtHand, KeepsAllButLog, NarrowsBesides};
@@ -86,6 +87,7 @@ impl Cluster {
         ensures known { (why : Reply) → known self.old command.now ≡ Some why → (result ≡ why) × (self.new ≡ self.old) × (disk.new ≡ disk.old) × (vault.new ≡ vault.old) }
         ensures answer { known self.old command.now ≡ None → IsAnswer self.new command.now result }
         ensures told { IsTrue D.told → known self.old command.now ≡ None → IsToldIn self.old.shape (contents (D.state disk.new).block) command.now result }
+        ensures abort_told { IsTrue D.told → known self.old command.now ≡ None → (t : TxnId) → command.now ≡ Command.Abort t → IsToldOfAbort self.new (D.state disk.new).block t.seat result }
         ensures commit_contents { IsTrue D.told → says_stop result ≡ false → (t : TxnId) → command.now ≡ Command.Commit t → KeepsAllButLog self.old.shape (D.state disk.old).block (D.state disk.new).block }
         ensures append_memory { (t : TxnId) (key : Key) (bytes : List ℕ) → command.now ≡ Command.Append t key bytes → IsAtHand self.old key.0 → (disk.new ≡ disk.old) × (vault.new ≡ vault.old) }
         ensures put_memory { (t : TxnId) (key : Key) (value : List ℕ) → command.now ≡ Command.Put t key value → IsAtHand self.old key.0 → (disk.new ≡ disk.old) × (vault.new ≡ vault.old) }
@@ -109,11 +111,10 @@ impl Cluster {
             }
             Command::Del(t, key) => reply_deleted(self.delete(disk, vault, t, key)),
             Command::Commit(t) => reply_of(self.commit(disk, vault, t)),
+            Command::Abort(t) => reply_of(self.abort(disk, vault, t)),
             Command::Flush(_) => reply_flushed(self.flush(disk, vault)),
             Command::Stat(_) => self.stat(),
-            Command::Format(_) | Command::Bad | Command::Abort(_) | Command::Dump(_) => {
-                unreachable!()
-            }
+            Command::Format(_) | Command::Bad | Command::Dump(_) => unreachable!(),
         }
     }
 }

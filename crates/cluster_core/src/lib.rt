@@ -6,6 +6,7 @@
 //! `record_machine` for what all that means.
 #![tactic(auto)]
 
+mod aborting;
 mod changing;
 mod checking;
 mod cluster;
@@ -24,10 +25,12 @@ mod putting;
 mod reading;
 mod refusal;
 mod reply;
+mod rereading;
 mod starting;
 mod stretch;
 mod taking;
 mod transacting;
+mod walking;
 mod writing;
 
 pub use cluster::Cluster;

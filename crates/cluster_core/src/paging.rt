@@ -7,7 +7,7 @@ ghost use Rattle.sd_base.specs.declared.names.TxnId.{TxnId};
 ghost use Rattle.space_map.specs.Image.{MapImage};
 ghost use Rattle.private_log.specs.Reading.{contents};
 ghost use Rattle.cluster_core.specs.Causes.{IsFaultOfPage, IsToldOfPages};
-ghost use Rattle.cluster_core.specs.Changes.{ShowsMap};
+ghost use Rattle.cluster_core.specs.Changes.{KeepsSeats, ShowsMap};
 ghost use Rattle.cluster_core.specs.Known.{has_txn};
 ghost use Rattle.cluster_core.specs.Footprint.{NarrowsBesides};
 ghost use Rattle.cluster_core.specs.Ports.{HasCause, IsQuiet, IsServed, OnUp, is_up, says_stop};
@@ -51,6 +51,7 @@ impl Cluster {
         ensures shows { OnOk result (IsTrue D.told → (m : Machine) → IsShown self.old (D.state disk.old).block m → IsShown self.new (D.state disk.new).block (one (Take x.0 1) m)) }
         ensures stopped { IfErr result (λ why. IsTrue D.told → (m : Machine) → IsShown self.old (D.state disk.old).block m → says_stop why ≡ true) }
         ensures seats { OnOk result ((t : TxnId) → has_txn self.new.node t ≡ has_txn self.old.node t) }
+        ensures txns { OnOk result (KeepsSeats self.old.node self.new.node) }
         ensures map { OnOk result (self.old.shape.maps ≤ x.0 → (image : MapImage) → ShowsMap self.old (map_of self.old.shape x) image → ShowsMap self.new (map_of self.old.shape x) image) }
         ensures cached { OnOk result (OnUp self.new.node (λ c seats. IsTrue (is_cached x c))) }
         ensures hit { OnUp self.old.node (λ c seats. IsTrue (is_cached x c)) → (IsOk result) × (self.new ≡ self.old) × (disk.new ≡ disk.old) × (vault.new ≡ vault.old) }

@@ -1,5 +1,6 @@
 ghost use Rattle.std.specs.Prelude.{◌≡◌, ◌≤◌, ◌<◌, ◌%◌};
 ghost use Rattle.sd_base.specs.Shape.{IsShape, page_count};
+ghost use Rattle.node_cache.specs.Room.{map_of, place_in_map};
 ghost use Rattle.cluster_core.specs.Places.{first_image, map_number, page_number, vault_need};
 ghost use Rattle.record_machine.specs.Machine.{group_of};
 
@@ -72,4 +73,24 @@ pub(crate) fn data_page(s: &Shape, map: PageNo, place: u8) -> PageNo
     ensures high { result.0 < page_count s.now }
 {
     PageNo(s.maps + 252 * map.0 + u32::from(place))
+}
+
+/// The map page that has the entry of a data page.
+pub(crate) fn map_of(s: &Shape, x: PageNo) -> PageNo
+    requires shape { IsShape s.now }
+    requires data { s.now.maps ≤ x.0 }
+    requires page { x.0 < page_count s.now }
+    ensures at { result ≡ map_of s.now x }
+    ensures low { result.0 < s.now.maps }
+{
+    PageNo((x.0 - s.maps) / 252)
+}
+
+/// The place of that entry.
+pub(crate) fn place_in_map(s: &Shape, x: PageNo) -> u8
+    requires data { s.now.maps ≤ x.0 }
+    ensures at { result ≡ place_in_map s.now x }
+    ensures high { result ≤ 251 }
+{
+    ((x.0 - s.maps) % 252) as u8
 }

@@ -1,4 +1,4 @@
-ghost use Rattle.std.specs.Prelude.{◌≡◌, ◌≤◌, ◌<◌, true, Some, IsTrue, IfSome};
+ghost use Rattle.std.specs.Prelude.{◌≡◌, ◌+◌, ◌^◌, ◌≤◌, ◌<◌, true, Some, IsTrue, IfSome};
 ghost use Rattle.std.specs.List.{position, slice_get};
 ghost use Rattle.page_image.specs.declared.page_view.PageView.{PageView};
 ghost use Rattle.page_image.specs.Image.{IsTextOf};
@@ -93,6 +93,7 @@ impl Cluster {
         requires data { self.now.shape.maps ≤ x.0 }
         requires cached { OnUp self.now.node (λ c seats. IsTrue (is_cached x c)) }
         ensures ident { (v : PageView) → ShowsData self.now x v → result ≡ v.ident }
+        ensures range { result ≤ 2 ^ 63 + 2 ^ 40 }
         ensures there { (v : PageView) × ShowsData self.now x v }
     {
         identifier(self.view(x))

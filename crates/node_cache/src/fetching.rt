@@ -26,7 +26,7 @@ use frame_pool::Pool;
 use page_owner::{Own, Owners, Ticket};
 use sd_base::{DevFault, Disk, NodeId, PageNo, Shape};
 use space_map::{ENTRIES, MapEntry};
-use state_ids::load;
+use state_ids::{load, test_block};
 
 /// Whether `x` is a data page whose entry stands in the map page `m`.
 fn is_map_of(s: &Shape, m: PageNo, x: PageNo) -> bool
@@ -349,5 +349,31 @@ impl NodeCache {
                 Err(fault)
             }
         }
+    }
+
+    /// Reads the block of a page, also of one that is cached, and tests that it is an image of the page.
+    /// Neither the cache nor a frame changes.
+    ///
+    /// `Damaged` comes where the block is no image of the page, and `Lost` where it is lost.
+    pub fn reread<D: Disk>(&self, disk: &mut D, s: &Shape, x: PageNo) -> Result<(), DevFault>
+        requires store { IsOfStore s.now self.now }
+        requires page { x.0 < page_count s.now }
+        requires live { (D.state disk.old).live self.now.node.0 ≡ true }
+        requires reach { (D.state disk.old).reach (page_place s.now x) ≡ true }
+        ensures keeps { Keeps self.now.node.0 (D.state disk.old) (D.state disk.new) }
+        ensures cause { IfErr result (λ fault. Caused fault (D.state disk.old) (D.state disk.new)) }
+        ensures fault { IfErr result (IsPageFault s.now x self.now.node.0) }
+        ensures told { IsTrue D.told → IfErr result (IsToldOfPage s.now x ((D.state disk.old).block (page_place s.now x)).current) }
+        ensures live { StaysLive result ((D.state disk.new).live self.now.node.0 ≡ true) }
+        ensures stopped { IfErr result (λ fault. OnStop fault ((D.state disk.new).live self.now.node.0 ≡ false)) }
+        ensures outcomes { IsTrue D.told → Narrows (D.state disk.old).block (D.state disk.new).block }
+        ensures writers { IsTrue D.told → NoNewWriter (D.state disk.old).block (D.state disk.new).block }
+        ensures foreign { IsTrue D.told → KeepsForeign self.now.node.0 (D.state disk.old).block (D.state disk.new).block }
+        ensures settled { IfErr result (λ fault. OnStop fault (IsTrue D.told → HasSettled self.now.node.0 (D.state disk.new).block)) }
+        ensures blocks { IsTrue D.told → StaysLive result ((D.state disk.new).block ≡ (D.state disk.old).block) }
+        ensures there { IsTrue D.told → (image : PageImage) → HoldsPage s.now x image ((D.state disk.old).block (page_place s.now x)).current → IfErr result (IsStopOf self.now.node.0) }
+        ensures found { OnOk result (IsTrue D.told → (image : PageImage) × HoldsPage s.now x image ((D.state disk.old).block (page_place s.now x)).current) }
+    {
+        test_block(disk, self.node, s, x)
     }
 }

@@ -1,5 +1,6 @@
 -- What a command is answered, and what it does.
-use Rattle.std.specs.Prelude.{◌≡◌, ◌≤◌, ◌^◌, ◌++◌, ◌∷◌, [], ℕ, Bool, true, false, not, nat_le, nat_lt, List, Option, Some, None, length, take, unwrap_or}
+use Rattle.std.specs.Prelude.{◌≡◌, ◌≤◌, ◌^◌, ◌-◌, ◌/◌, ◌++◌, ◌∷◌, [], ℕ, Bool, true, false, not, nat_le, nat_lt, List, Option, Some, None, length, replicate, reverse, take, unwrap_or}
+use Rattle.std.specs.List.{flat_map}
 use Rattle.sd_base.specs.declared.device.NodeId.{NodeId}
 use Rattle.sd_base.specs.declared.names.Key.{Key}
 use Rattle.sd_base.specs.declared.names.TxnId.{TxnId}
@@ -12,8 +13,8 @@ use Rattle.script_text.specs.declared.command.Command.{Command}
 use Rattle.script_text.specs.declared.command.Command.TheVariants as asks
 use Rattle.script_text.specs.declared.reply.Reply.{Reply}
 use Rattle.script_text.specs.declared.reply.Reply.TheVariants as says
-use Rattle.record_machine.specs.Machine.{Machine, NodeMode, Idle, Up, Down, Redone, free_place, group_of, home, is_busy, map_of, new_home, owed, room, seen, used}
-use Rattle.record_machine.specs.Parts.{Part, Start, Take, Begin, Use, Lock, Change, Seal, Unlock, dos}
+use Rattle.record_machine.specs.Machine.{Deed, Machine, NodeMode, Write, Idle, Up, Down, Redone, free_place, group_of, home, is_busy, map_of, new_home, owed, room, seen, used, writes_of}
+use Rattle.record_machine.specs.Parts.{Part, Start, Take, Begin, Use, Lock, Change, Back, Seal, Unlock, dos}
 
 -- ---- refusals
 
@@ -119,7 +120,7 @@ refusal m (asks.Append t key bytes) = first_of (no_node m t.node ∷ not_up m t.
 refusal m (asks.Del t key) = first_of (no_node m t.node ∷ not_up m t.node ∷ no_txn m t ∷ no_lock m key t locks.Write ∷ no_deletion m t key.0 ∷ [])
 refusal m (asks.Flush n) = first_of (no_node m n ∷ not_up m n ∷ [])
 refusal m (asks.Stat n) = no_node m n
-refusal m (asks.Abort t) = Some says.Bad
+refusal m (asks.Abort t) = first_of (no_node m t.node ∷ not_up m t.node ∷ no_txn m t ∷ [])
 refusal m (asks.Dump n) = Some says.Bad
 
 -- ---- what is done
@@ -141,6 +142,18 @@ target m key = or_new (home m key)
 abbrev pub takes_target : Machine → TxnId → Key → List Part
 takes_target m t key = takes_both m t.node.0 key.0 (target m key.0)
 
+-- a page that is written is taken after the map page that has its entry
+abbrev pub takes_written : Machine → ℕ → Deed → List Part
+takes_written m n d = of_write d.write
+  where
+    of_write : Option Write → List Part
+    of_write None = []
+    of_write (Some w) = Take ((w.page - m.shape.maps) / 252) n ∷ Take w.page n ∷ []
+
+-- the pages of all that the transaction has written, the newest write first
+abbrev pub takes_back : Machine → TxnId → List Part
+takes_back m t = flat_map (takes_written m t.node.0) (reverse (writes_of m t))
+
 abbrev pub takes : Machine → Command → List Part
 takes m (asks.Get t key) = takes_both m t.node.0 key.0 (home m key.0)
 takes m (asks.Put t key value) = takes_target m t key
@@ -151,7 +164,7 @@ takes m (asks.Format s) = []
 takes m (asks.Start n) = []
 takes m (asks.Begin t) = []
 takes m (asks.Commit t) = []
-takes m (asks.Abort t) = []
+takes m (asks.Abort t) = takes_back m t
 takes m (asks.Flush n) = []
 takes m (asks.Dump n) = []
 takes m (asks.Stat n) = []
@@ -182,6 +195,10 @@ abbrev pub deletes : TxnId → ℕ → Option (List ℕ) → Option ℕ → List
 deletes t key None x = []
 deletes t key (Some value) x = writes t key None x
 
+-- each write of the transaction is taken back
+abbrev pub backs : Machine → TxnId → List Part
+backs m t = replicate (length (writes_of m t)) (Back t)
+
 -- what a command does that isn't refused, part by part
 abbrev pub parts : Machine → Command → List Part
 parts m (asks.Start n) = Start n.0 ∷ []
@@ -193,7 +210,7 @@ parts m (asks.Del t key) = takes m (asks.Del t key) ++ Lock key t locks.Write �
 parts m (asks.Commit t) = Seal t ∷ Unlock t ∷ []
 parts m asks.Bad = []
 parts m (asks.Format s) = []
-parts m (asks.Abort t) = []
+parts m (asks.Abort t) = takes_back m t ++ backs m t ++ Seal t ∷ Unlock t ∷ []
 parts m (asks.Flush n) = []
 parts m (asks.Dump n) = []
 parts m (asks.Stat n) = []

@@ -36,6 +36,7 @@ module _ (c next : ClusterState) (command : Command) (reply : Reply) (old new : 
   may_stop (asks.Append t key bytes) is stops = tt
   may_stop (asks.Del t key) is stops = tt
   may_stop (asks.Commit t) is stops = tt
+  may_stop (asks.Abort t) is stops = tt
   may_stop (asks.Flush n) is stops = tt
   may_stop (asks.Stat n) is stops = told_of_node n is (no_node c n) refl
     where
@@ -64,6 +65,7 @@ module _ (c next : ClusterState) (command : Command) (reply : Reply) (old new : 
   while_stopped (asks.Append t key bytes) is = tt
   while_stopped (asks.Del t key) is = tt
   while_stopped (asks.Commit t) is = tt
+  while_stopped (asks.Abort t) is = tt
   while_stopped (asks.Flush n) is = tt
   while_stopped (asks.Stat n) is = tt
   while_stopped asked is = refused _ (ap (known c) is)

@@ -85,9 +85,10 @@ impl Store {
             | Command::Append(..)
             | Command::Del(..)
             | Command::Commit(_)
+            | Command::Abort(_)
             | Command::Flush(_)
             | Command::Stat(_) => Reply::Closed,
-            Command::Bad | Command::Abort(_) | Command::Dump(_) => Reply::Bad,
+            Command::Bad | Command::Dump(_) => Reply::Bad,
         }
     }
 

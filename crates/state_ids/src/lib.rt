@@ -16,6 +16,6 @@ mod writing;
 
 pub use held::{Clean, Dirty, Held, Written};
 pub use laws::{law_of_changes, law_of_one_image};
-pub use loading::load;
+pub use loading::{load, test_block};
 pub use logged::{Logged, log_page};
 pub use writing::write_page;

@@ -1,4 +1,4 @@
-ghost use Rattle.std.specs.Prelude.{◌≡◌, ◌↔◌, ◌<◌, ◌≤◌, ℕ, true, false, IsTrue, IfOk, IfErr, OnOk, MatchResult, length};
+ghost use Rattle.std.specs.Prelude.{◌≡◌, ◌↔◌, ◌<◌, ◌≤◌, ℕ, true, false, Some, IsTrue, IfOk, IfErr, OnOk, MatchResult, length};
 ghost use Rattle.sd_base.specs.Disk.{IsPort};
 ghost use Rattle.sd_base.specs.Calls.{Keeps, Narrows, NoNewWriter, KeepsForeign};
 ghost use Rattle.sd_base.specs.Faults.{Caused, IsStopOf, OnStop, StaysLive};
@@ -40,6 +40,71 @@ fn put_in_life(pool: &mut Pool, f: &Frame, s: &Shape, x: PageNo, e: Option<MapEn
     }
 }
 
+/// Reads the block of a page, which is an image of the page then.
+///
+/// `Damaged` comes where the block is no image of the page, and `Lost` where it is lost.
+fn read_image<D: Disk>(
+    disk: &mut D,
+    port: NodeId,
+    s: &Shape,
+    x: PageNo,
+    out: &mut Block,
+) -> Result<(), DevFault>
+    requires shape { IsShape s.now }
+    requires page { x.0 < page_count s.now }
+    requires port { IsPort port.0 }
+    requires live { (D.state disk.old).live port.0 ≡ true }
+    requires reach { (D.state disk.old).reach (page_place s.now x) ≡ true }
+    ensures keeps { Keeps port.0 (D.state disk.old) (D.state disk.new) }
+    ensures cause { IfErr result (λ fault. Caused fault (D.state disk.old) (D.state disk.new)) }
+    ensures fault { IfErr result (IsPageFault s.now x port.0) }
+    ensures told { IsTrue D.told → IfErr result (IsToldOfPage s.now x ((D.state disk.old).block (page_place s.now x)).current) }
+    ensures live { StaysLive result ((D.state disk.new).live port.0 ≡ true) }
+    ensures stopped { IfErr result (λ fault. OnStop fault ((D.state disk.new).live port.0 ≡ false)) }
+    ensures outcomes { IsTrue D.told → Narrows (D.state disk.old).block (D.state disk.new).block }
+    ensures writers { IsTrue D.told → NoNewWriter (D.state disk.old).block (D.state disk.new).block }
+    ensures foreign { IsTrue D.told → KeepsForeign port.0 (D.state disk.old).block (D.state disk.new).block }
+    ensures settled { IfErr result (λ fault. OnStop fault (IsTrue D.told → HasSettled port.0 (D.state disk.new).block)) }
+    ensures blocks { IsTrue D.told → StaysLive result ((D.state disk.new).block ≡ (D.state disk.old).block) }
+    ensures image { OnOk result ((image : PageImage) × IsText image out.new × (page_of image ≡ x) × IsOfKind s.now image) }
+    ensures content { OnOk result (IsTrue D.told → ((D.state disk.old).block (page_place s.now x)).current ≡ Some out.new) }
+    ensures there { IsTrue D.told → (image : PageImage) → HoldsPage s.now x image ((D.state disk.old).block (page_place s.now x)).current → IfErr result (IsStopOf port.0) }
+{
+    let at = s.page_block(x);
+    read_block(disk, port, at, out)?;
+    if !is_image(out, s, x) {
+        return Err(DevFault::Damaged(at));
+    }
+    Ok(())
+}
+
+/// Reads the block of a page and tests that it is an image of the page. Nothing else is done with it.
+///
+/// `Damaged` comes where the block is no image of the page, and `Lost` where it is lost.
+pub fn test_block<D: Disk>(disk: &mut D, port: NodeId, s: &Shape, x: PageNo) -> Result<(), DevFault>
+    requires shape { IsShape s.now }
+    requires page { x.0 < page_count s.now }
+    requires port { IsPort port.0 }
+    requires live { (D.state disk.old).live port.0 ≡ true }
+    requires reach { (D.state disk.old).reach (page_place s.now x) ≡ true }
+    ensures keeps { Keeps port.0 (D.state disk.old) (D.state disk.new) }
+    ensures cause { IfErr result (λ fault. Caused fault (D.state disk.old) (D.state disk.new)) }
+    ensures fault { IfErr result (IsPageFault s.now x port.0) }
+    ensures told { IsTrue D.told → IfErr result (IsToldOfPage s.now x ((D.state disk.old).block (page_place s.now x)).current) }
+    ensures live { StaysLive result ((D.state disk.new).live port.0 ≡ true) }
+    ensures stopped { IfErr result (λ fault. OnStop fault ((D.state disk.new).live port.0 ≡ false)) }
+    ensures outcomes { IsTrue D.told → Narrows (D.state disk.old).block (D.state disk.new).block }
+    ensures writers { IsTrue D.told → NoNewWriter (D.state disk.old).block (D.state disk.new).block }
+    ensures foreign { IsTrue D.told → KeepsForeign port.0 (D.state disk.old).block (D.state disk.new).block }
+    ensures settled { IfErr result (λ fault. OnStop fault (IsTrue D.told → HasSettled port.0 (D.state disk.new).block)) }
+    ensures blocks { IsTrue D.told → StaysLive result ((D.state disk.new).block ≡ (D.state disk.old).block) }
+    ensures there { IsTrue D.told → (image : PageImage) → HoldsPage s.now x image ((D.state disk.old).block (page_place s.now x)).current → IfErr result (IsStopOf port.0) }
+    ensures found { OnOk result (IsTrue D.told → (image : PageImage) × HoldsPage s.now x image ((D.state disk.old).block (page_place s.now x)).current) }
+{
+    let mut block = [0; 4096];
+    read_image(disk, port, s, x, &mut block)
+}
+
 /// Reads a page into a frame, under its map entry where that is known.
 fn load_frame<D: Disk>(
     disk: &mut D,
@@ -75,11 +140,7 @@ fn load_frame<D: Disk>(
     ensures found { OnOk result (IsTrue D.told → (image : PageImage) × HoldsPage s.now x image ((D.state disk.old).block (page_place s.now x)).current) }
     ensures image { OnOk result (IsTrue D.told → (image : PageImage) → HoldsPage s.now x image ((D.state disk.old).block (page_place s.now x)).current → Shows pool.new f.now (in_life e image)) }
 {
-    let at = s.page_block(x);
-    read_block(disk, port, at, pool.bytes_mut(f))?;
-    if !is_image(pool.bytes(f), s, x) {
-        return Err(DevFault::Damaged(at));
-    }
+    read_image(disk, port, s, x, pool.bytes_mut(f))?;
     put_in_life(pool, f, s, x, e);
     Ok(())
 }

@@ -92,6 +92,78 @@ fn a_page_at_its_limit(rt: HostRuntime) -> Result<(), Fail> {
 }
 
 #[test]
+fn what_an_abort_takes_back(rt: HostRuntime) -> Result<(), Fail> {
+    for (script, transcript) in [
+        // All that it has written, and nothing else: each record is as it was before the transaction.
+        (
+            "put 1.0 5 a\ncommit 1.0\nbegin 1.0\nappend 1.0 5 b\nput 1.0 5 c\nabort 1.0\nstat 1\nbegin 1.0\nget 1.0 5\n",
+            "ok\nok\nok\nok\nok\nok\nstat up 10 0 38\nok\nvalue a\n",
+        ),
+        (
+            "put 1.0 5 a\nput 1.0 6 b\nput 1.0 21 c\ncommit 1.0\nbegin 1.0\ndel 1.0 5\nput 1.0 5 d\nappend 1.0 6 e\ndel 1.0 21\nput 1.0 37 f\nabort 1.0\nbegin 1.0\nget 1.0 5\nget 1.0 6\nget 1.0 21\nget 1.0 37\n",
+            "ok\nok\nok\nok\nok\nok\nok\nok\nok\nok\nok\nok\nvalue a\nvalue b\nvalue c\nabsent\n",
+        ),
+        // A page that a group has got stays the group's: the next record in it needs no further one.
+        (
+            "abort 1.0\nstat 1\nbegin 1.0\nput 1.0 5 a\nstat 1\nabort 1.0\nstat 1\nbegin 1.0\nput 1.0 6 b\nstat 1\n",
+            "ok\nstat up 2 0 46\nok\nok\nstat up 5 2 41\nok\nstat up 7 0 41\nok\nok\nstat up 9 2 37\n",
+        ),
+        // Its locks are released, and other transactions keep what they have written into the same page.
+        (
+            "put 1.0 5 a\nbegin 1.1\nput 1.1 6 b\nget 1.1 5\nput 1.0 7 c\nput 1.1 8 d\nabort 1.0\nget 1.1 5\nget 1.1 7\nput 1.1 5 e\ncommit 1.1\nbegin 1.0\nget 1.0 5\nget 1.0 6\nget 1.0 7\nget 1.0 8\n",
+            "ok\nok\nok\nlocked 1.0\nok\nok\nok\nabsent\nabsent\nok\nok\nok\nvalue e\nvalue b\nabsent\nvalue d\n",
+        ),
+        // Pages that were flushed are changed back all the same.
+        (
+            "put 1.0 5 a\nput 1.0 21 b\nflush 1\nabort 1.0\nflush 1\nflush 1\nbegin 1.0\nget 1.0 5\nget 1.0 21\n",
+            "ok\nok\nflushed 3\nok\nflushed 2\nflushed 0\nok\nabsent\nabsent\n",
+        ),
+    ] {
+        let script = format!(in rt.alloc(); "{BEGUN}{script}")?;
+        let transcript = format!(in rt.alloc(); "ok\nok\nok\n{transcript}")?;
+        expect_anew(&rt, script.as_str(), transcript.as_str())?;
+    }
+    Ok(())
+}
+
+#[test]
+fn an_abort_in_a_full_log(rt: HostRuntime) -> Result<(), Fail> {
+    // What is owed has its room: a begin, a use of a place and ten updates are taken back in a log of 24.
+    let puts =
+        "put 1.0 0 v\nput 1.0 1 v\nput 1.0 2 v\nput 1.0 3 v\nput 1.0 4 v\nput 1.0 5 v\nput 1.0 6 v\nput 1.0 7 v\nput 1.0 8 v\nput 1.0 9 v\n";
+    let script = format!(in rt.alloc();
+        "format 1 4 1 8 0\nstart 1\nbegin 1.0\n{puts}put 1.0 10 v\nabort 1.0\nstat 1\nbegin 1.0\n"
+    )?;
+    let done = repeated(rt.alloc(), "ok\n", 13)?;
+    let transcript = format!(in rt.alloc();
+        "{done}logfull 2 1\nok\nstat up 23 0 1\nlogfull 2 1\n"
+    )?;
+    expect_anew(&rt, script.as_str(), transcript.as_str())
+}
+
+#[test]
+fn pages_that_have_left_before_an_abort(rt: HostRuntime) -> Result<(), Fail> {
+    // Eighteen groups: their pages and the map page are more than a cache has, so some come back for the
+    // abort, and leave again before they are changed back.
+    let mut puts = String::new(rt.alloc());
+    let mut gets = String::new(rt.alloc());
+    for i in 0..18u32 {
+        let key = i.saturating_mul(16);
+        let put = format!(in rt.alloc(); "put 1.0 {key} v\n")?;
+        puts.push_str(put.as_str())?;
+        let get = format!(in rt.alloc(); "get 1.0 {key}\n")?;
+        gets.push_str(get.as_str())?;
+    }
+    let script = format!(in rt.alloc();
+        "format 1 64 1 8 0\nstart 1\nbegin 1.0\n{puts}commit 1.0\nbegin 1.0\n{puts}abort 1.0\nstat 1\nbegin 1.0\n{gets}"
+    )?;
+    let done = repeated(rt.alloc(), "ok\n", 42)?;
+    let values = repeated(rt.alloc(), "value v\n", 18)?;
+    let transcript = format!(in rt.alloc(); "{done}stat up 76 0 308\nok\n{values}")?;
+    expect_anew(&rt, script.as_str(), transcript.as_str())
+}
+
+#[test]
 fn what_is_told_of_a_node(rt: HostRuntime) -> Result<(), Fail> {
     // Of the log's 48 records: used, owed and free.
     for (script, transcript) in [

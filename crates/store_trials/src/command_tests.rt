@@ -121,8 +121,8 @@ fn what_is_refused(rt: HostRuntime) -> Result<(), Fail> {
             "closed\nclosed\nclosed\nclosed\nclosed\n",
         ),
         (
-            "append 1.0 5 a\ndel 1.0 5\nflush 1\nstat 1\nabort 1.0\ndump 1\n",
-            "closed\nclosed\nclosed\nclosed\nbad\nbad\n",
+            "append 1.0 5 a\ndel 1.0 5\nabort 1.0\nflush 1\nstat 1\ndump 1\n",
+            "closed\nclosed\nclosed\nclosed\nclosed\nbad\n",
         ),
         // A store is open.
         (
@@ -146,24 +146,24 @@ fn what_is_refused(rt: HostRuntime) -> Result<(), Fail> {
             "ok\nok\nok\nbusy 1.0\nok\nok\nok\n",
         ),
         (
-            "format 1 8 1 8 0\nappend 2.0 5 a\ndel 3.1 5\nflush 2\nstat 16\n",
-            "ok\nnonode 2\nnonode 3\nnonode 2\nnonode 16\n",
+            "format 1 8 1 8 0\nappend 2.0 5 a\ndel 3.1 5\nabort 2.7\nflush 2\nstat 16\n",
+            "ok\nnonode 2\nnonode 3\nnonode 2\nnonode 2\nnonode 16\n",
         ),
         (
-            "format 1 8 1 8 0\nappend 1.0 5 a\ndel 1.0 5\nflush 1\nstat 1\n",
-            "ok\nnotup 1\nnotup 1\nnotup 1\nstat idle\n",
+            "format 1 8 1 8 0\nappend 1.0 5 a\ndel 1.0 5\nabort 1.0\nflush 1\nstat 1\n",
+            "ok\nnotup 1\nnotup 1\nnotup 1\nnotup 1\nstat idle\n",
         ),
         (
-            "format 1 8 1 8 0\nstart 1\nappend 1.0 5 a\ndel 1.6 5\n",
-            "ok\nok\nnotxn 1.0\nnotxn 1.6\n",
+            "format 1 8 1 8 0\nstart 1\nappend 1.0 5 a\ndel 1.6 5\nabort 1.1\nbegin 1.1\nabort 1.1\nabort 1.1\n",
+            "ok\nok\nnotxn 1.0\nnotxn 1.6\nnotxn 1.1\nok\nok\nnotxn 1.1\n",
         ),
         (
             "format 1 8 1 8 0\nstart 1\nbegin 1.0\nget 1.0 5\nbegin 1.1\nappend 1.1 5 a\ndel 1.1 5\n",
             "ok\nok\nok\nabsent\nok\nlocked 1.0\nlocked 1.0\n",
         ),
         (
-            "format 1 8 1 8 0\nstart 1\nbegin 1.0\nabort 1.0\ndump 1\nget 1.0 5\n",
-            "ok\nok\nok\nbad\nbad\nabsent\n",
+            "format 1 8 1 8 0\nstart 1\nbegin 1.0\ndump 1\nget 1.0 5\n",
+            "ok\nok\nok\nbad\nabsent\n",
         ),
     ] {
         expect_anew(&rt, script, transcript)?;

@@ -62,7 +62,7 @@ next_told t next ident update rec is =
     by_kind (λ u r. next_after t.begin r ≡ Some next) t next ident update rec is (λ txn prev page bsi slot before after. rw own refl) (λ txn prev page bsi slot present len bytes. rw own refl)
 
 -- and nothing to any other transaction
-not_another : (t : OpenTxn) (next ident other : ℕ) (update rec : LogRecord) → compensation_of t next ident update ≡ Some rec → t.begin ≢ other → (is_update_of other rec ≡ false) × (next_after other rec ≡ None)
+pub not_another : (t : OpenTxn) (next ident other : ℕ) (update rec : LogRecord) → compensation_of t next ident update ≡ Some rec → t.begin ≢ other → (is_update_of other rec ≡ false) × (next_after other rec ≡ None)
 not_another t next ident other update rec is apart =
     let not : (t.begin == other) ≡ false = grind (arith, nat_tests) in
     by_kind (λ u r. (is_update_of other r ≡ false) × (next_after other r ≡ None)) t next ident update rec is (λ txn prev page bsi slot before after. (refl, rw not refl)) (λ txn prev page bsi slot present len bytes. (refl, rw not refl))

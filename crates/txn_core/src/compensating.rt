@@ -183,12 +183,10 @@ impl Seats {
     }
 
     /// Takes back the newest update that is left of a transaction: its slot gets what it held before the
-    /// update, by a record that says what is to be taken back then. The page is cached, and has room for
-    /// one more change.
+    /// update, by a record that says what is to be taken back then.
     ///
-    /// Where nothing is left, the page isn't there or the log doesn't hold what the transaction has
-    /// logged, it answers `Damaged` and changes nothing. On a device that tells what it holds, none of
-    /// these comes.
+    /// Where nothing is left, the update's page isn't a cached data page that has room for one more change,
+    /// or the log doesn't hold what the transaction has logged, it answers `Damaged` and changes nothing.
     pub fn take_back_one<D: Disk>(
         &mut self,
         disk: &mut D,
@@ -198,8 +196,6 @@ impl Seats {
     ) -> Result<(), DevFault>
         requires seat { seat ≤ 7 }
         requires busy { IsTrue (is_busy self.old seat) }
-        requires ready { IsTrue D.told → (recs : List LogRecord) (t : OpenTxn) → txn_in self.old seat ≡ Some t → HasRecords c.old.log (D.state disk.old).block recs → AreTold self.old c.old.log.start recs
-            → (v : PageView) × IsToUndo pool.old c.old.pages (6 * c.old.log.start) recs t v }
         requires shown { AreShown c.old.log.shape pool.old c.old }
         requires tie { AreTied self.old c.old }
         requires log_tie { IsTiedToLog c.old }
@@ -209,7 +205,8 @@ impl Seats {
         ensures keeps { Keeps c.old.node.0 (D.state disk.old) (D.state disk.new) }
         ensures cause { IfErr result (λ fault. Caused fault (D.state disk.old) (D.state disk.new)) }
         ensures fault { IfErr result (IsLogFault (region c.old.log) c.old.node.0) }
-        ensures there { IsTrue D.told → (recs : List LogRecord) → HasRecords c.old.log (D.state disk.old).block recs → AreTold self.old c.old.log.start recs → IfErr result (IsStopOf c.old.node.0) }
+        ensures there { IsTrue D.told → (recs : List LogRecord) (t : OpenTxn) (v : PageView) → txn_in self.old seat ≡ Some t → HasRecords c.old.log (D.state disk.old).block recs → AreTold self.old c.old.log.start recs
+            → IsToUndo pool.old c.old.pages (6 * c.old.log.start) recs t v → IfErr result (IsStopOf c.old.node.0) }
         ensures live { StaysLive result ((D.state disk.new).live c.old.node.0 ≡ true) }
         ensures stopped { IfErr result (λ fault. OnStop fault ((D.state disk.new).live c.old.node.0 ≡ false)) }
         ensures outcomes { IsTrue D.told → NarrowsBeside (next_place c.old.log) (D.state disk.old).block (D.state disk.new).block }

@@ -1,5 +1,5 @@
 use Rattle.std.specs.Prelude.{IsTrue, length}
-use Rattle.std.proofs.Common.{ap, subst, sym, ◌∙◌, length-set}
+use Rattle.std.proofs.Common.{ap, refl, subst, sym, ◌∙◌, length-set}
 use Rattle.log_record.specs.declared.record.LogRecord.TheVariants.{Commit}
 use Rattle.record_locks.specs.Held.{without_txn}
 use Rattle.txn_core.specs.Seats.{is_busy}
@@ -13,7 +13,7 @@ use Rattle.cluster_core.specs.Footprint.{KeepsAllButLog, NarrowsBesides}
 use Rattle.cluster_core.specs.Ports.{OnUp}
 use Rattle.cluster_core.specs.Shows.{ShowsNode, ShowsStore}
 use Rattle.cluster_core.proofs.Logging.{can_logged, cluster_logged}
-use Rattle.cluster_core.proofs.ShownCommit.{txn_of, up_committed}
+use Rattle.cluster_core.proofs.ShownCommit.{txn_of, up_ended}
 use Rattle.cluster_core.proofs.ShownLogged.{length_shown}
 use Rattle.cluster_core.proofs.Footprints.{besides_still, log_alone, log_besides}
 use Rattle.cluster_core.proofs.cluster.Cluster.commit.Goals as goal
@@ -48,7 +48,7 @@ returns-in-Ok-clause-shows g c = λ told m shown_by.
         reopening = view.reopening;
         node = (
           shown.0,
-          up_committed c.self.inside.shape c.self.inside.shared.pool c.in-Up.cache c.commit-done.new.c c.in-Up.seats c.commit-done.new.self (g.D.Disk.state c.args.disk.now).block (g.D.Disk.state c.commit-done.new.disk).block p m c.args.t txn.0
+          up_ended c.self.inside.shape c.self.inside.shared.pool c.in-Up.cache c.commit-done.new.c c.in-Up.seats c.commit-done.new.self (g.D.Disk.state c.args.disk.now).block (g.D.Disk.state c.commit-done.new.disk).block p m c.args.t rec (λ k. (refl, refl))
               is.is.eight is.is.store is.is.log_tie c.requires.node c.requires.seat c.commit-done.ensures.cache_node c.commit-done.ensures.pages c.commit-done.ensures.same (c.commit-done.ensures.outcomes told)
               c.in-Ok.ensures.seats (c.in-Ok.ensures.records told _ txn.0 txn.1 shown.1.records) (c.in-Ok.ensures.told _ txn.0 txn.1 (length_shown c.self.inside.shape c.self.inside.shared.pool c.in-Up.cache c.in-Up.seats (g.D.Disk.state c.args.disk.now).block p m shown.1) shown.1.told) shown.1,
         );

@@ -1,22 +1,29 @@
 use Rattle.std.specs.Prelude.{◌≡◌, true, false, IsTrue}
 use Rattle.std.proofs.Common.{subst, sym, ◌∙◌}
+use Rattle.sd_base.specs.declared.names.TxnId.{TxnId}
+use Rattle.script_text.specs.declared.command.Command.TheVariants as asks
 use Rattle.record_machine.specs.Commands.{Step}
 use Rattle.record_machine.specs.Machine.{Machine}
 use Rattle.cluster_core.specs.Known.{known}
 use Rattle.cluster_core.specs.Ports.{says_stop}
 use Rattle.cluster_core.specs.Shows.{IsShown}
-use Rattle.cluster_core.proofs.Steps.{append_step, begin_step, commit_step, delete_step, error_then, flush_step, get_step, known_step, put_step, start_step, stat_step, test_of}
+use Rattle.cluster_core.proofs.Steps.{abort_step, append_step, begin_step, commit_step, delete_step, error_then, flush_step, get_step, known_step, put_step, start_step, stat_step, test_of}
 use Rattle.cluster_core.proofs.Testing.{on_done}
 use Rattle.std.specs.Prelude.{Some, None, IfErr}
 use Rattle.private_log.specs.Content.{region_of}
 use Rattle.private_log.specs.Reading.{contents}
 use Rattle.cluster_core.specs.Answering.{reply_deleted, reply_flushed, reply_found, reply_of}
-use Rattle.cluster_core.specs.Causes.{IsAnswer, IsFaultFor, IsFoundIn, IsToldIn, IsToldOfPages, IsWriteReason}
+use Rattle.cluster_core.specs.Causes.{IsAbortFault, IsAnswer, IsFaultFor, IsFoundIn, IsToldIn, IsToldOfPages, IsWriteReason}
+use Rattle.cluster_core.specs.Aborts.{IsToldOfAbort}
 use Rattle.cluster_core.specs.FaultReply.{IsLogReply, IsToldDamaged}
 use Rattle.cluster_core.specs.Ports.{IsCoveredBut}
 use Rattle.cluster_core.proofs.Causing.{all_kept, damaged_then, deleted_or, fine_or, flushed_or, found_or, idle_before, known_cause, stop_told, told_deleted, told_flushed, told_found, told_of, told_state}
 use Rattle.txn_core.specs.declared.change.Change.TheVariants.{Append, Delete, Put}
 use Rattle.cluster_core.proofs.cluster.Cluster.exec.Goals as goal
+
+-- the transaction of an abort
+abort_of : (t u : TxnId) → asks.Abort t ≡ asks.Abort u → t ≡ u
+abort_of t u same = cc
 
 pub returns-in-Err-clause-step : goal.returns-in-Err-clause-step
 returns-in-Err-clause-step g c = λ told runs m shown.
@@ -239,3 +246,30 @@ returns-in-Stat-clause-told g c = λ told none.
     let s = c.args.self.now.shape in
     let b = contents (g.D.Disk.state c.args.disk.now).block in
     subst (λ k. IsToldIn s b k c.stat.result) (sym c.in-Stat.is) (subst (IsToldOfPages s b) (sym c.stat.ensures) (told_state s b c.args.self.now.node))
+
+-- ---- abort
+
+pub returns-in-Abort-clause-step : goal.returns-in-Abort-clause-step
+returns-in-Abort-clause-step g c = λ told runs m shown.
+    let S : Machine → Type 0 = IsShown c.abort.new.self (g.D.Disk.state c.abort.new.disk).block in
+    subst (λ r. Step m c.args.command.now r S) (sym c.reply_of-in-Abort.ensures)
+    (abort_step c.args.self.now (g.D.Disk.state c.args.disk.now).block m c.law_of_clusters.ensures shown c.args.command.now c.check.result S c.requires.range c.check.ensures c.in_default.is
+    c.in-Abort.t c.abort.result c.in-Abort.is (subst (λ r. says_stop r ≡ false) c.reply_of-in-Abort.ensures runs)
+    (error_then c.abort.result (λ why. IsTrue g.D.Disk.told → (m : Machine) → IsShown c.args.self.now (g.D.Disk.state c.args.disk.now).block m → says_stop why ≡ true) (λ why. says_stop why ≡ true) c.abort.ensures.stopped (λ why stops. stops told m shown))
+    (on_done c.abort.result c.abort.ensures.shows (λ shows. shows told m shown)))
+
+pub returns-in-Abort-clause-answer : goal.returns-in-Abort-clause-answer
+returns-in-Abort-clause-answer g c = λ none.
+    subst (IsAnswer c.abort.new.self c.args.command.now) (sym c.reply_of-in-Abort.ensures)
+    (subst (λ k. IsAnswer c.abort.new.self k (reply_of c.abort.result)) (sym c.in-Abort.is)
+    (fine_or (IsAbortFault c.abort.new.self.shape) c.abort.result (subst (λ s. IfErr c.abort.result (IsAbortFault s)) (sym c.abort.ensures.shape) c.abort.ensures.refused)))
+
+pub returns-in-Abort-clause-told : goal.returns-in-Abort-clause-told
+returns-in-Abort-clause-told g c = λ told none. subst (λ k. IsToldIn c.args.self.now.shape (contents (g.D.Disk.state c.abort.new.disk).block) k c.reply_of-in-Abort.result) (sym c.in-Abort.is) tt
+
+pub returns-in-Abort-clause-abort_told : goal.returns-in-Abort-clause-abort_told
+returns-in-Abort-clause-abort_told g c = λ told none t same.
+    let one : t ≡ c.in-Abort.t = abort_of t c.in-Abort.t (sym same ∙ c.in-Abort.is) in
+    subst (λ k. IsToldOfAbort c.abort.new.self (g.D.Disk.state c.abort.new.disk).block k.seat c.reply_of-in-Abort.result) (sym one)
+    (subst (IsToldOfAbort c.abort.new.self (g.D.Disk.state c.abort.new.disk).block c.in-Abort.t.seat) (sym c.reply_of-in-Abort.ensures)
+    (told_of (IsToldOfAbort c.abort.new.self (g.D.Disk.state c.abort.new.disk).block c.in-Abort.t.seat) c.abort.result tt (c.abort.ensures.told told)))

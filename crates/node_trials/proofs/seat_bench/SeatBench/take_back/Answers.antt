@@ -9,14 +9,6 @@ use Rattle.node_trials.proofs.SeatedLaws.{alive, counted_set, done, given, match
 use Rattle.node_trials.proofs.seat_bench.SeatBench.take_back.Goals as goal
 
 -- the update that `next` has found is the one that is to be taken back
-pub take_back_one-requires-clause-ready : goal.take_back_one-requires-clause-ready
-take_back_one-requires-clause-ready g c = λ told recs t there has tells.
-    let blocks = alive c.next.result _ c.expect-found.ensures (c.next.ensures.blocks told) in
-    let before = subst (λ b. HasRecords c.args.self.now.bench.cache.log b recs) blocks has in
-    let page = c.check_page.ensures in
-    let found = matched _ _ c.expect-found.result _ c.in-Some.is (given _ c.next.result _ c.expect-found.ensures c.next.ensures.found told recs t there before tells) in
-    (page.0, to_undo_of _ _ _ recs t _ _ page.0 page.1 page.2 found)
-
 pub take_back_one-requires-clause-shown : goal.take_back_one-requires-clause-shown
 take_back_one-requires-clause-shown g c =
     let was = c.requires.seated.ready in

@@ -32,9 +32,8 @@ use Rattle.txn_core.proofs.UpdateLaws.{page_updated}
 use Rattle.txn_core.proofs.seats.Seats.take_back_one.Goals as goal
 
 pub returns-in_err-rec-clause-there : goal.returns-in_err-rec-clause-there
-returns-in_err-rec-clause-there g c = λ told recs has tells.
-    let undo = c.requires.ready told recs (shown c.open_in-txn.result) c.open_in-txn.ensures has tells in
-    let stop = c.in_err-rec.ensures.there told recs (shown c.open_in-txn.result) undo.0 c.open_in-txn.ensures has tells undo.1 in
+returns-in_err-rec-clause-there g c = λ told recs t v there has tells undo.
+    let stop = c.in_err-rec.ensures.there told recs t v there has tells undo in
     search (rules, stop)
 
 pub returns-in_err-rec-clause-disk_tie : goal.returns-in_err-rec-clause-disk_tie
