@@ -1,5 +1,5 @@
 -- What the calls of the seats leave of what their caller carries.
-use Rattle.std.specs.Prelude.{◌≡◌, ◌+◌, ◌^◌, ◌<◌, ℕ, zero, suc, Bool, true, false, IsTrue, List, [], ◌∷◌, Option, Some, None, Result, Ok, Err, OnOk, IfOk, IfSome, MatchOption, is_some, length, slice_index_or, slice_set, refl}
+use Rattle.std.specs.Prelude.{◌≡◌, ◌<◌, ℕ, zero, suc, Bool, true, false, IsTrue, List, [], ◌∷◌, Option, Some, None, Result, Ok, Err, OnOk, is_some, length, slice_index_or, slice_set, refl}
 use Rattle.std.proofs.Common.{arith, ap, inl, inr, sym, subst, ◌∙◌}
 use Rattle.std.proofs.lemmas.Bool.{cases_eq}
 use Rattle.std.proofs.lemmas.List.{get_or-set_other}
@@ -8,19 +8,11 @@ use Rattle.sd_base.specs.Disk.{BlockState, DiskState}
 use Rattle.sd_base.specs.Calls.{Keeps, NoNewWriter, NoNewWriterBut}
 use Rattle.sd_base.specs.Faults.{StaysLive}
 use Rattle.sd_base.specs.declared.fault.DevFault.{DevFault}
-use Rattle.sd_base.specs.declared.names.PageNo.{PageNo}
 use Rattle.sd_base.specs.declared.shape.Shape.{Shape}
-use Rattle.page_image.specs.declared.page_view.PageView.{PageView}
 use Rattle.page_owner.specs.declared.owners.Own.{Own}
-use Rattle.log_record.specs.declared.record.LogRecord.{LogRecord}
-use Rattle.log_record.specs.Record.{page_op_of}
 use Rattle.private_log.specs.Log.{SameLog}
-use Rattle.node_cache.specs.Cache.{CachedPage, CacheState}
-use Rattle.compensation.specs.Left.{is_update_of, uncompensated}
-use Rattle.compensation.specs.Finding.{newest, record_at}
+use Rattle.node_cache.specs.Cache.{CacheState}
 use Rattle.txn_core.specs.Seats.{AreTied, OpenTxn, SeatsState, is_busy, txn_in}
-use Rattle.txn_core.specs.Undo.{IsToUndo}
-use Rattle.txn_core.specs.Updates.{HasPage}
 use Rattle.txn_core.proofs.SeatLaws.{all_longer}
 use Rattle.node_trials.specs.Bench.{IsReady}
 use Rattle.node_trials.specs.SeatBench.{AreCounted}
@@ -34,14 +26,6 @@ done (Err e) x is p = cc
 pub alive : {T P : Type 0} (r : Result T DevFault) (x : T) → r ≡ Ok x → StaysLive r P → P
 alive (Ok y) x is p = p
 alive (Err e) x is p = cc
-
-pub given : {T E : Type 0} (P : T → Type 0) (r : Result T E) (x : T) → r ≡ Ok x → IfOk r P → P x
-given P (Ok y) x is p = let same : y ≡ x = cc in subst P same p
-given P (Err e) x is p = cc
-
-pub matched : {T : Type 0} (P : Type 0) (Q : T → Type 0) (o : Option T) (x : T) → o ≡ Some x → MatchOption o P Q → Q x
-matched P Q None x is p = cc
-matched P Q (Some y) x is p = let same : y ≡ x = cc in subst Q same p
 
 -- a busy seat has a transaction
 pub txn_of : (s : SeatsState) (seat : ℕ) → IsTrue (is_busy s seat) → (t : OpenTxn) × (txn_in s seat ≡ Some t)
@@ -60,19 +44,6 @@ pub ready_read : (s : Shape) (told : Bool) (d d' : DiskState) (pool : List (Opti
     → IsReady s told d' pool owners c
 ready_read s told d d' pool owners c was keeps live writers =
     ready_written s told d d' pool pool owners c c 0 was keeps live (λ t. none_but 0 c.node.0 d.block d'.block (writers t)) refl (record { shape = refl; node = refl; start = refl }) was.log_tie refl refl
-
--- the page of the update that is to be taken back next, where it is cached
-pub to_undo_of : (pool : List (Option (List ℕ))) (pages : List CachedPage) (first : ℕ) (recs : List LogRecord) (t : OpenTxn) (number : ℕ) (x : PageNo) (v : PageView) → HasPage pool pages x v → v.ident < 2 ^ 63 + 2 ^ 40
-    → (newest (uncompensated t.begin first recs) ≡ Some number) × (rec : LogRecord) × (record_at first recs number ≡ Some rec) × (is_update_of t.begin rec ≡ true) × IfSome (page_op_of rec) (λ o. o.0 ≡ x) → IsToUndo pool pages first recs t v
-to_undo_of pool pages first recs t number x v has room found = record {
-  number = number;
-  newest = found.0;
-  update = found.1;
-  there = found.2;
-  of_page = subst (λ y. IfSome (page_op_of found.1) (λ o. o.0 ≡ y)) (sym has.number) found.4;
-  cached = subst (λ y. HasPage pool pages y v) (sym has.number) has;
-  room = room;
-}
 
 -- the tie of the seats, through a call that leaves the log as long as it was
 pub tied_same : (s : SeatsState) (c d : CacheState) → d.node ≡ c.node → SameLog c.log d.log → d.log.tail ≡ c.log.tail → AreTied s c → AreTied s d

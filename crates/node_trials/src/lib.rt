@@ -3,8 +3,13 @@
 //! What no contract says shows in its tests: that the calls succeed, in which order pages leave, which
 //! records the transactions log, and what the device holds at each stop. Its `Bench` is a caller of the
 //! cache that carries one word from call to call (`IsReady`), and its `SeatBench` a caller of the seats
-//! (`IsSeated`). Nothing stands on this crate.
+//! (`IsSeated`). Its `WatchedDisk` is a device that notes what it is told to do and stops where it is
+//! asked to. Nothing stands on this crate.
 #![tactic(auto)]
+
+mod watched;
+
+pub use watched::{Deed, WatchedDisk};
 
 #[cfg(test)]
 mod again_tests;
@@ -40,5 +45,3 @@ mod steps;
 mod stop_tests;
 #[cfg(test)]
 mod store;
-#[cfg(test)]
-mod watched;

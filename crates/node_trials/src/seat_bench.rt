@@ -10,7 +10,7 @@ use crate::bench::{Bench, Remains};
 use crate::store::{PAGES, SHAPE};
 use crate::watched::WatchedDisk;
 use page_image::{identifier, slot};
-use sd_base::{DevFault, Disk, MAX_IDENT, PageNo, Value};
+use sd_base::{DevFault, Disk, PageNo, Value};
 use std::process::Abort;
 use txn_core::{Change, Seats};
 
@@ -81,16 +81,6 @@ impl<D: Disk> SeatBench<D> {
             space >= 2 && self.seats.owed() <= space - 2,
             "the log is full"
         );
-    }
-
-    /// The page is a cached data page that has room for one more change.
-    fn check_page(&self, rt: &impl Abort, x: PageNo)
-        requires { IsReady SHAPE D.told (D.state self.now.bench.disk) self.now.bench.pool self.now.bench.owners self.now.bench.cache }
-        ensures { (v : PageView) × HasPage self.now.bench.pool self.now.bench.cache.pages x v × (v.ident < 2 ^ 63 + 2 ^ 40) }
-    {
-        assert!(rt; x.0 >= SHAPE.maps, "{x:?} is no data page");
-        let page = self.bench.view(rt, x);
-        assert!(rt; identifier(page) < MAX_IDENT);
     }
 
     /// The page is a cached data page, and the change fits what its slot holds.
@@ -189,10 +179,9 @@ impl<D: Disk> SeatBench<D> {
             .seats
             .next(disk, cache, seat)
             .expect(rt, "what is next");
-        let Some((number, page)) = found else {
+        let Some((number, _page)) = found else {
             return None;
         };
-        self.check_page(rt, page);
         let free = self.bench.pool.free();
         let Bench {
             disk,

@@ -1,4 +1,4 @@
-ghost use Rattle.std.specs.Prelude.{◌≡◌, ◌≢◌, ◌+◌, ◌-◌, ◌≤◌, ◌^◌, ℕ, min, replicate, slice_index};
+ghost use Rattle.std.specs.Prelude.{◌≡◌, ◌≢◌, ◌+◌, ◌-◌, ◌≤◌, ◌^◌, ℕ, length, min, replicate, slice_index};
 ghost use Rattle.sd_base.specs.Disk.{IsPort};
 ghost use Rattle.node_trials.specs.Watched.{watched_state};
 
@@ -6,7 +6,7 @@ use sd_base::{Block, BlockNo, Disk, NodeId, ReadAnswer, WriteAnswer};
 
 /// What a device was told to do with its blocks.
 #[derive(Clone, Copy, Debug, PartialEq, Eq)]
-pub(crate) enum Deed {
+pub enum Deed {
     Write(BlockNo),
     Barrier,
 }
@@ -19,7 +19,7 @@ const MAX_DEEDS: usize = 32;
 ///
 /// A write that is stopped has reached the device below, uncovered: what it leaves is up to `picks`.
 #[derive(Drop)]
-pub(crate) struct WatchedDisk<D> {
+pub struct WatchedDisk<D> {
     disk: D,
     /// The read, write or barrier that is stopped, counted from 1. 0 for none.
     stop_at: u64,
@@ -36,7 +36,7 @@ pub(crate) struct WatchedDisk<D> {
 
 impl<D: Disk> WatchedDisk<D> {
     /// A device over this one, of which no call is stopped yet.
-    pub(crate) fn new(disk: D) -> WatchedDisk<D>
+    pub fn new(disk: D) -> WatchedDisk<D>
         ensures { ⟦<WatchedDisk<D> as Disk>⟧.state result ≡ watched_state (D.state disk) (replicate 17 0) }
     {
         WatchedDisk {
@@ -51,7 +51,7 @@ impl<D: Disk> WatchedDisk<D> {
     }
 
     /// Notes from here on, and stops the port at a call that is counted from here on.
-    pub(crate) fn watch(&mut self, stop_at: u64, picks: u64)
+    pub fn watch(&mut self, stop_at: u64, picks: u64)
         ensures { ⟦<WatchedDisk<D> as Disk>⟧.state self.new ≡ ⟦<WatchedDisk<D> as Disk>⟧.state self.old }
     {
         self.stop_at = stop_at;
@@ -60,8 +60,10 @@ impl<D: Disk> WatchedDisk<D> {
         self.noted = 0;
     }
 
-    /// What is noted, the oldest first.
-    pub(crate) fn deeds(&self) -> &[Deed] {
+    /// What is noted, the oldest first: no more than the first 32 deeds.
+    pub fn deeds(&self) -> &[Deed]
+        ensures { length result.now ≤ 32 }
+    {
         &self.deeds[..self.noted]
     }
 

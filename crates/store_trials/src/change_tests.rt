@@ -2,7 +2,8 @@ use crate::trial::{expect, expect_anew, repeated};
 use crate::{Faults, FaultyDisk};
 use disk_model::MemDisk;
 use page_image::write_birth;
-use sd_base::{Block, BlockNo, PageNo};
+use sd_base::{Block, BlockNo, Disk, NodeId, PageNo, ReadAnswer};
+use std::process::Abort;
 use std::test::Fail;
 
 // A store of one node that is up and has a transaction.
@@ -122,6 +123,72 @@ fn what_an_abort_takes_back(rt: HostRuntime) -> Result<(), Fail> {
         let script = format!(in rt.alloc(); "{BEGUN}{script}")?;
         let transcript = format!(in rt.alloc(); "ok\nok\nok\n{transcript}")?;
         expect_anew(&rt, script.as_str(), transcript.as_str())?;
+    }
+    Ok(())
+}
+
+/// Runs a script over a disk of which one call fails, and compares the transcript.
+fn expect_failing(
+    rt: &(impl Abort + AllocGlobal),
+    fail_at: u64,
+    script: &str,
+    transcript: &str,
+) -> Result<FaultyDisk, Fail> {
+    let wrong = Faults {
+        fail_at,
+        ..Faults::NONE
+    };
+    let mut disk = FaultyDisk::new(rt.alloc(), 263, wrong)?;
+    let mut vault = MemDisk::new(rt.alloc(), 263)?;
+    expect(rt, &mut disk, &mut vault, script, transcript)?;
+    Ok(disk)
+}
+
+/// What the first block of the log holds.
+fn log_block<D: Disk>(rt: &impl Abort, disk: &mut D) -> Block {
+    let mut content = [0; 4096];
+    assert!(rt; disk.blocks() > 2);
+    disk.start(NodeId(1));
+    let answer = disk.read(NodeId(1), BlockNo(2), &mut content);
+    assert_eq!(rt; answer, ReadAnswer::Done);
+    content
+}
+
+#[test]
+fn which_blocks_an_abort_reads_and_writes(rt: HostRuntime) -> Result<(), Fail> {
+    // Behind the 268 calls of `format` and `start`, the two pages that the first `put` reads, and the six
+    // calls of a flush of two pages: an abort reads the blocks of the map page and of the page where these
+    // are unchanged in the cache, and writes and covers one block of the log. It makes no other call.
+    for (flush, flushed, first, end) in [
+        ("", "", 271, 273),
+        ("flush 1\n", "flushed 2\n", 277, 281),
+    ] {
+        let script = format!(in rt.alloc(); "{BEGUN}put 1.0 5 a\n{flush}abort 1.0\nstat 1\n")?;
+        let failed = format!(in rt.alloc(); "ok\nok\nok\nok\n{flushed}fault 1\nstat down\n")?;
+        for call in first..end {
+            let _ = expect_failing(&rt, call, script.as_str(), failed.as_str())?;
+        }
+        let done = format!(in rt.alloc(); "ok\nok\nok\nok\n{flushed}ok\nstat up 5 0 43\n")?;
+        let _ = expect_failing(&rt, end, script.as_str(), done.as_str())?;
+    }
+    Ok(())
+}
+
+#[test]
+fn an_abort_reads_before_it_logs(rt: HostRuntime) -> Result<(), Fail> {
+    // Five records are in the first block of the log, and the first compensation fills it. Behind the 268
+    // calls of `format` and `start`, the three pages that the writes read, and the eight calls of a flush
+    // of three pages, the abort reads the map page and the page of each write; then the block is written.
+    let script = format!(in rt.alloc(); "{BEGUN}put 1.0 5 a\nput 1.0 21 b\nflush 1\n")?;
+    let flushed = "ok\nok\nok\nok\nok\nflushed 3\n";
+    let mut disk = expect_failing(&rt, 0, script.as_str(), flushed)?;
+    let before = log_block(&rt, &mut disk);
+    let script = format!(in rt.alloc(); "{script}abort 1.0\n")?;
+    let failed = format!(in rt.alloc(); "{flushed}fault 1\n")?;
+    for call in 280..286u64 {
+        let mut disk = expect_failing(&rt, call, script.as_str(), failed.as_str())?;
+        let is_written = log_block(&rt, &mut disk) != before;
+        assert_eq!(rt; is_written, call == 285, "call {call}");
     }
     Ok(())
 }

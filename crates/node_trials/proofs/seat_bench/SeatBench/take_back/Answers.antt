@@ -2,13 +2,11 @@ use Rattle.std.proofs.Common.{◌≡◌, ◌-◌, ap, arith, map, refl, rules, s
 use Rattle.frame_pool.specs.Frames.{free_count}
 use Rattle.node_cache.specs.Cache.{AreShown, changed_by, written_back}
 use Rattle.node_cache.proofs.SamePages.{with_same}
-use Rattle.txn_core.specs.Told.{HasRecords}
 use Rattle.node_trials.specs.declared.store.TheConstants.{SHAPE}
 use Rattle.node_trials.proofs.ReadyLaws.{ready_same}
-use Rattle.node_trials.proofs.SeatedLaws.{alive, counted_set, done, given, matched, ready_read, to_undo_of, txn_of}
+use Rattle.node_trials.proofs.SeatedLaws.{alive, counted_set, done, ready_read, txn_of}
 use Rattle.node_trials.proofs.seat_bench.SeatBench.take_back.Goals as goal
 
--- the update that `next` has found is the one that is to be taken back
 pub take_back_one-requires-clause-shown : goal.take_back_one-requires-clause-shown
 take_back_one-requires-clause-shown g c =
     let was = c.requires.seated.ready in
