@@ -1,6 +1,6 @@
 -- Why an abort isn't done.
-use Rattle.std.specs.Prelude.{◌≡◌, ◌⊎◌, ◌<◌, ◌≤◌, ℕ, true, List, Option, IsTrue, refl}
-use Rattle.std.proofs.Common.{arith, inl, inr, ap, subst, sym}
+use Rattle.std.specs.Prelude.{◌≡◌, ◌⊎◌, ◌<◌, ◌≤◌, ℕ, refl}
+use Rattle.std.proofs.Common.{arith, inl, inr, subst, sym}
 use Rattle.sd_base.specs.Disk.{BlockState}
 use Rattle.sd_base.specs.Shape.{page_count}
 use Rattle.sd_base.specs.declared.names.PageNo.{PageNo}

@@ -1,8 +1,8 @@
 -- What is left of a seat's deeds after its newest write was taken back.
-use Rattle.std.specs.Prelude.{◌≡◌, ◌==◌, ◌⊎◌, ◌+◌, ◌≤◌, ◌++◌, ◌∷◌, [], ℕ, Bool, true, false, List, Option, Some, None, All, filter, fold, is_some, length, map, reverse, refl}
-use Rattle.std.specs.List.{count_by, list_any}
-use Rattle.std.proofs.Common.{arith, inl, inr, ap, subst, sym, ◌∙◌}
-use Rattle.std.proofs.lemmas.List.{length-append, length-map, length-reverse, map-append, reverse-append, reverse-reverse}
+use Rattle.std.specs.Prelude.{◌≡◌, ◌==◌, ◌⊎◌, ◌+◌, ◌++◌, ◌∷◌, [], ℕ, Bool, true, false, List, Some, filter, is_some, length, map, reverse, refl}
+use Rattle.std.specs.List.{list_any}
+use Rattle.std.proofs.Common.{arith, inl, inr, ap, sym, ◌∙◌}
+use Rattle.std.proofs.lemmas.List.{length-append, length-map, map-append, reverse-append, reverse-reverse}
 use Rattle.std.proofs.lemmas.List.Elements.{filter-append}
 use Rattle.std.proofs.lemmas.List.Sums.{count_by-le-length, fold-append, length-filter}
 use Rattle.std.proofs.lemmas.Bool.{eq-eqb}

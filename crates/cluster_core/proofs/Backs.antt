@@ -1,5 +1,5 @@
 -- Taking back one update after another.
-use Rattle.std.specs.Prelude.{◌≡◌, ◌+◌, ◌<◌, ◌≤◌, ◌++◌, ◌∷◌, [], ℕ, zero, suc, List, Option, Some, None, IsTrue, MatchOption, length, replicate, refl}
+use Rattle.std.specs.Prelude.{◌≡◌, ◌+◌, ◌∷◌, [], ℕ, zero, suc, Some, None, length, replicate, refl}
 use Rattle.std.proofs.Common.{arith, ap, subst, sym, ◌∙◌}
 use Rattle.std.proofs.lemmas.List.{length-append}
 use Rattle.sd_base.specs.declared.names.TxnId.{TxnId}

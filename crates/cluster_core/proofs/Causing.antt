@@ -1,10 +1,11 @@
 -- What a command answers when it isn't done.
-use Rattle.std.specs.Prelude.{◌≡◌, ◌≢◌, ◌⊎◌, ◌+◌, ◌-◌, ◌^◌, ◌%◌, ◌≤◌, ◌∷◌, [], ℕ, Bool, true, false, nat_le, nat_lt, not, List, Option, Some, None, Result, Ok, Err, IfErr, IfNone, IfOk, IfSome, length, if◌then◌else◌, refl}
+use Rattle.std.specs.Prelude.{◌≡◌, ◌≢◌, ◌⊎◌, ◌+◌, ◌-◌, ◌^◌, ◌%◌, ◌≤◌, ◌∷◌, [], ℕ, Bool, true, false, nat_le, nat_lt, not, List, Option, Some, None, Result, Ok, Err, IfErr, IfNone, IfOk, IfSome, length, option_map, if◌then◌else◌, refl}
 use Rattle.std.specs.List.{position}
 use Rattle.std.proofs.Common.{arith, inl, inr, ap, subst, sym, ◌∙◌}
 use Rattle.std.proofs.lemmas.Bool.Decides.{nat_tests}
 use Rattle.sd_base.specs.Disk.{BlockState, DiskState, IsLawful}
 use Rattle.sd_base.specs.declared.names.TxnId.{TxnId}
+use Rattle.record_locks.specs.Held.{least_where}
 use Rattle.record_locks.specs.Answer.{lock_answer}
 use Rattle.record_locks.specs.declared.mode.LockAnswer.{LockAnswer}
 use Rattle.record_locks.specs.declared.mode.LockAnswer.TheVariants as locks
@@ -47,7 +48,7 @@ use Rattle.cluster_core.specs.Causes.{IsFaultFor, IsFaultOfPage, IsPageFor, HasN
 use Rattle.cluster_core.specs.Changes.{ShowsData, ShowsMap, length_refusal, new_place, place_or}
 use Rattle.cluster_core.specs.Cluster.{ClusterState}
 use Rattle.cluster_core.specs.FaultReply.{IsToldDamaged}
-use Rattle.cluster_core.specs.Known.{busy, checked, has_txn, is_idle, known, no_lock, no_node, no_room, no_txn, not_idle, not_up, room_in, state_of}
+use Rattle.cluster_core.specs.Known.{any_lock, busy, checked, has_txn, is_idle, known, no_lock, no_node, no_room, no_txn, not_idle, not_up, room_in, state_of}
 use Rattle.cluster_core.specs.Places.{map_number}
 use Rattle.cluster_core.specs.Ports.{HasCause, is_up, reply_to, says_stop}
 
@@ -274,7 +275,11 @@ module _ (d d' : DiskState) (c : ClusterState) where
   known_then (asks.Flush n) = up_then n [] tt
   known_then (asks.Stat n) = where_then Caused (nat_lt c.shape.nodes n.0) (says.NoNode n) tt
   known_then asks.Bad = tt
-  known_then (asks.Dump n) = tt
+  known_then (asks.Dump n) = up_then n (any_lock c ∷ []) (first_then Caused (any_lock c) [] (busy_then (least_where (λ l mode. true) c.locks)) tt)
+    where
+      busy_then : (o : Option TxnId) → IfSome (option_map says.Busy o) Caused
+      busy_then None = tt
+      busy_then (Some t) = tt
 
   pub known_cause : (command : Command) (why : Reply) → known c command ≡ Some why → HasCause why d d'
   known_cause command why is = subst (λ o. IfSome o Caused) is (known_then command)

@@ -3,7 +3,7 @@ use Rattle.std.specs.Prelude.{◌≡◌, ◌≢◌, ◌+◌, ◌-◌, ◌/◌, �
 use Rattle.std.specs.List.{position}
 use Rattle.std.proofs.Common.{arith, inl, inr, ap, subst, sym, ◌∙◌}
 use Rattle.std.proofs.lemmas.List.Elements.{All-nil}
-use Rattle.sd_base.specs.Disk.{BlockState}
+use Rattle.sd_base.specs.Disk.{BlockState, IsLawful}
 use Rattle.sd_base.specs.Calls.{Narrows}
 use Rattle.sd_base.specs.Shape.{page_count}
 use Rattle.sd_base.specs.declared.device.NodeId.{NodeId}
@@ -23,7 +23,7 @@ use Rattle.cluster_core.specs.declared.node.Node.{Node}
 use Rattle.cluster_core.specs.declared.node.Node.TheVariants.{Down, Idle, Up}
 use Rattle.cluster_core.specs.Changes.{ShowsMap, UsesPlace, new_place}
 use Rattle.cluster_core.specs.Cluster.{ClusterState}
-use Rattle.cluster_core.specs.Footprint.{CanWriteAt, FillsNoBlock, HasPlace, KeepsAllButLog, NarrowsBesides}
+use Rattle.cluster_core.specs.Footprint.{CanWriteAt, FillsNoBlock, HasPlace, KeepsAllButLog, KeepsCovered, NarrowsBesides, NarrowsToRing}
 use Rattle.cluster_core.specs.Places.{map_number}
 use Rattle.cluster_core.specs.Ports.{OnUp, is_up}
 use Rattle.cluster_core.proofs.Fetching.{is_one}
@@ -73,6 +73,17 @@ log_besides s c a b nodes store tie narrows k o page ring may = elim (narrows k 
   | inl old ↦ old
   | inr here ↦ absurd (ring (c.log.tail / 6) (here ∙ ring_of s c (c.log.tail / 6) nodes store tie))
 ]
+
+-- nor to any block but those of the ring
+pub log_ring : (s : Shape) (c : CacheState) (a b : ℕ → BlockState) → s.nodes ≡ 1 → IsOfStore s c → IsTiedToLog c → NarrowsBeside (next_place c.log) a b → NarrowsToRing s a b
+log_ring s c a b nodes store tie narrows k o ring may = elim (narrows k o may) [
+  | inl old ↦ old
+  | inr here ↦ absurd (ring (c.log.tail / 6) (here ∙ ring_of s c (c.log.tail / 6) nodes store tie))
+]
+
+-- what had no uncovered write holds what it held
+pub kept_covered : (s : Shape) (a b : ℕ → BlockState) → ((k : ℕ) → IsLawful a k) → ((k : ℕ) → IsLawful b k) → NarrowsToRing s a b → KeepsCovered s a b
+kept_covered s a b was is narrows k ring none = (was k).covered none (b k).current (narrows k (b k).current ring (is k).current)
 
 -- nor does it to write the last block of the log, and pages of the store
 pub pages_besides : (s : Shape) (c : CacheState) (pool : List (Option (List ℕ))) (pages : List CachedPage) (a b : ℕ → BlockState) → s.nodes ≡ 1 → IsOfStore s c → IsTiedToLog c → All (λ p. p.ticket.page.0 < page_count s) pages

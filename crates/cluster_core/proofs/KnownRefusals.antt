@@ -1,5 +1,5 @@
 -- What a command is refused for by what is in memory, the machine refuses it for too.
-use Rattle.std.specs.Prelude.{◌≡◌, ◌⊎◌, ◌∷◌, [], ◌-◌, ◌*◌, ◌≤◌, ℕ, Bool, true, false, not, nat_lt, List, Option, refl}
+use Rattle.std.specs.Prelude.{◌≡◌, ◌⊎◌, ◌∷◌, [], ◌-◌, ◌*◌, ◌≤◌, ℕ, Bool, true, false, not, nat_lt, List, Option, option_map, refl}
 use Rattle.std.proofs.Common.{arith, inl, inr, ap, subst, sym, ◌∙◌}
 use Rattle.std.proofs.lemmas.Bool.{cases_eq}
 use Rattle.std.proofs.lemmas.Bool.Decides.{nat_tests}
@@ -10,6 +10,7 @@ use Rattle.sd_base.specs.declared.names.TxnId.{TxnId}
 use Rattle.record_locks.specs.declared.mode.Mode.{Mode}
 use Rattle.record_locks.specs.declared.mode.Mode.TheVariants as locks
 use Rattle.record_locks.specs.Answer.{lock_answer}
+use Rattle.record_locks.specs.Held.{least_where}
 use Rattle.script_text.specs.Words.{IsNode, IsTxn}
 use Rattle.script_text.specs.declared.command.Command.TheVariants as asks
 use Rattle.script_text.specs.declared.reply.Reply.{Reply}
@@ -141,6 +142,9 @@ module _ (c : ClusterState) (b : ℕ → BlockState) (p : Plain) (m : Machine) (
 
   pub known_flush : (n : NodeId) → IsNode n → wants.refusal m (asks.Flush n) ≡ known.known c (asks.Flush n)
   known_flush n range = up_first n [] [] range (λ one up. refl)
+
+  pub known_dump : (n : NodeId) → IsNode n → wants.refusal m (asks.Dump n) ≡ known.known c (asks.Dump n)
+  known_dump n range = up_first n (wants.any_lock m ∷ []) (known.any_lock c ∷ []) range (λ one up. ap (λ held. first_of (option_map says.Busy (least_where (λ l mode. true) held) ∷ [])) shown.locks)
 
   pub known_stat : (n : NodeId) → wants.refusal m (asks.Stat n) ≡ known.known c (asks.Stat n)
   known_stat n = ap (λ k. where_so (nat_lt k n.0) (says.NoNode n)) nodes

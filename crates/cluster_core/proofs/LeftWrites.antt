@@ -1,5 +1,5 @@
 -- The updates that are left of a transaction are the writes of it that the machine has.
-use Rattle.std.specs.Prelude.{◌≡◌, ◌≢◌, ◌==◌, ◌&&◌, ◌⊎◌, ◌*◌, ◌+◌, ◌^◌, ◌%◌, ◌<◌, ◌≤◌, ◌++◌, ◌∷◌, [], ℕ, Bool, true, false, List, Option, Some, None, All, IfSome, MatchOption, cond, filter, is_some, map, reverse, refl}
+use Rattle.std.specs.Prelude.{◌≡◌, ◌≢◌, ◌==◌, ◌⊎◌, ◌*◌, ◌+◌, ◌^◌, ◌<◌, ◌≤◌, ◌++◌, ◌∷◌, [], ℕ, Bool, true, false, List, Option, Some, None, All, IfSome, MatchOption, cond, filter, is_some, map, reverse, refl}
 use Rattle.std.specs.List.{count_by, range_with_len, sum_by}
 use Rattle.std.proofs.Common.{arith, inl, inr, ap, subst, sym, ◌∙◌}
 use Rattle.std.proofs.lemmas.List.{append_assoc, append-nil, map-append, reverse-append, reverse-reverse}
@@ -22,9 +22,9 @@ use Rattle.txn_core.specs.Seats.{OpenTxn, SeatsState, txn_in}
 use Rattle.txn_core.specs.Told.{IsOpenIn}
 use Rattle.txn_core.proofs.UndoLaws.{page_of_update, seat_told}
 use Rattle.record_machine.specs.Machine.{Deed, Machine, Write, home, open_writes, writes_page, is_write_in, newest_of, without_newest, writes_of}
-use Rattle.record_machine.specs.Meaning.{AreBelowTop, AreLogged, AreLogs, ArePages, Plain, Tells, after, first_record}
+use Rattle.record_machine.specs.Meaning.{AreBelowTop, AreLogged, AreLogs, ArePages, Plain, Tells, after}
 use Rattle.record_machine.proofs.Homes.{home_is_data}
-use Rattle.record_machine.proofs.Newest.{IsNewest, newest_is, no_writes, none_newest, some_write, writes_rest}
+use Rattle.record_machine.proofs.Newest.{newest_is, no_writes, none_newest, some_write, writes_rest}
 use Rattle.cluster_core.specs.Aborts.{IsLeftAfter, IsNextAfter, IsNumberOf, changes_page, is_op_of, left_on}
 use Rattle.page_image.specs.declared.page_view.PageView.{PageView}
 use Rattle.txn_core.specs.Updates.{HasPage}

@@ -23,7 +23,7 @@ use Rattle.cluster_core.specs.Changes.{HasMap}
 use Rattle.cluster_core.proofs.ShownFetch.{frames_stay, other_found}
 
 -- a page that may go isn't the map page
-goes_apart : (s : Shape) (x : PageNo) (p : CachedPage) → s.maps ≤ x.0 → may_go s x p ≡ true → p.ticket.page ≢ map_of s x
+pub goes_apart : (s : Shape) (x : PageNo) (p : CachedPage) → s.maps ≤ x.0 → may_go s x p ≡ true → p.ticket.page ≢ map_of s x
 goes_apart s x p far goes same =
     let here : p.ticket.page.0 ≡ (map_of s x).0 = ap (λ (y : PageNo). y.0) same in
     let is : is_map_of s p.ticket.page x ≡ true = grind (arith, nat_tests, far, here) in

@@ -1,5 +1,5 @@
 -- A node whose transactions are those that they were.
-use Rattle.std.specs.Prelude.{◌≡◌, ◌+◌, ◌<◌, ℕ, true, false, Option, Some, None, IsTrue, refl}
+use Rattle.std.specs.Prelude.{◌≡◌, ◌<◌, ℕ, true, false, Option, Some, None, IsTrue, refl}
 use Rattle.std.proofs.Common.{arith, subst, sym, ◌∙◌}
 use Rattle.txn_core.specs.Seats.{OpenTxn, SeatsState, is_busy, txn_in}
 use Rattle.cluster_core.specs.declared.node.Node.{Node}

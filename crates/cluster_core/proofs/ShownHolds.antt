@@ -14,7 +14,7 @@ use Rattle.cluster_core.specs.declared.node.Node.{Node}
 use Rattle.cluster_core.specs.declared.node.Node.TheVariants.{Idle, Up, Down}
 use Rattle.cluster_core.specs.Cluster.{ClusterState}
 use Rattle.cluster_core.specs.Ports.{OnUp}
-use Rattle.cluster_core.specs.Shows.{IsShown, ShowsIdle, ShowsNode, ShowsUp}
+use Rattle.cluster_core.specs.Shows.{IsShown, ShowsNode}
 
 -- ---- one page
 

@@ -15,6 +15,9 @@ use Rattle.script_text.specs.declared.reply.Reply.TheVariants as says
 use Rattle.record_machine.specs.Machine.{Machine, seen}
 use Rattle.record_machine.specs.Meaning.{Plain}
 use Rattle.record_machine.specs.Parts.{Begin, Seal, Start, Unlock, dos, one}
+use Rattle.record_machine.specs.Rows.{IsNextRow, RowStep}
+use Rattle.cluster_core.specs.Dumps.{IsFirstRecord, reply_row}
+use Rattle.cluster_core.specs.declared.dumping.Row.{Row}
 use Rattle.record_machine.specs.Commands.{MayAnswer, Stayed, Step, TellsNode, first_of, no_deletion, no_page, parts, takes, too_long}
 use Rattle.record_machine.specs.Commands as wants
 use Rattle.cluster_core.specs.Answering.{Answers, AnswersWith, reply_deleted, reply_flushed, reply_found, reply_of}
@@ -22,7 +25,7 @@ use Rattle.cluster_core.specs.Cluster.{ClusterState, IsCluster}
 use Rattle.cluster_core.specs.Known.{checked, known, no_lock, no_node, no_txn, not_idle, not_up, state_of}
 use Rattle.cluster_core.specs.Ports.{says_stop}
 use Rattle.cluster_core.specs.Shows.{IsShown, ShowsStore}
-use Rattle.cluster_core.proofs.KnownRefusals.{known_abort, known_begin, known_change, known_commit, known_flush, known_get, known_start, known_stat, one_or_none, told_node}
+use Rattle.cluster_core.proofs.KnownRefusals.{known_abort, known_begin, known_change, known_commit, known_dump, known_flush, known_get, known_start, known_stat, one_or_none, told_node}
 use Rattle.cluster_core.proofs.WriteTests.{not_stopped}
 use Rattle.cluster_core.proofs.Testing.{passed}
 
@@ -71,7 +74,7 @@ known_is c b p m asks.Bad why is shown range so = so
 known_is c b p m (asks.Flush n) why is shown range so = known_flush c b p m is shown n range ∙ so
 known_is c b p m (asks.Stat n) why is shown range so = known_stat c b p m is shown n ∙ so
 known_is c b p m (asks.Abort t) why is shown range so = known_abort c b p m is shown t range ∙ so
-known_is c b p m (asks.Dump n) why is shown range so = so
+known_is c b p m (asks.Dump n) why is shown range so = known_dump c b p m is shown n range ∙ so
 
 -- ---- what goes on
 
@@ -202,3 +205,16 @@ module _ (c : ClusterState) (b : ℕ → BlockState) (m : Machine) (is : IsClust
         let so = none_of command (asks.Commit t) tests same are done in
         subst (λ k. Step m k (reply_of r) S) (sym same)
         (done_step m (asks.Commit t) (reply_of r) S (known_commit c b shown.0 m is shown.1 t (subst InRange same range) ∙ so) (ap reply_of (not_stopped r stops runs)) (of_done_call r stops runs holds))
+
+  -- the next record of a dump: it is refused for what is known, and else it is what was found
+  pub row_refused : (n : NodeId) (first : ℕ) (why : Reply) → InRange (asks.Dump n) → known c (asks.Dump n) ≡ Some why → RowStep m n first why (IsShown c b)
+  row_refused n first why range so = rw (known_is c b shown.0 m (asks.Dump n) why is shown.1 range so) (refl, shown)
+
+  pub row_step : (n : NodeId) (first : ℕ) (r : Result (Option Row) Reply) (S : Machine → Type 0) → InRange (asks.Dump n) → known c (asks.Dump n) ≡ None → IfErr r (λ why. says_stop why ≡ true) → says_stop (reply_row r) ≡ false
+      → IfOk r (IsFirstRecord m first) → OnOk r (S m) → RowStep m n first (reply_row r) S
+  row_step n first (Err why) S range so stops runs found after = let never : true ≡ false = sym stops ∙ runs in cc
+  row_step n first (Ok found) S range so stops runs is_first after = rw (known_dump c b shown.0 m is shown.1 n range ∙ so) (by found is_first, record { hold = m.hold; taken = λ x. inl refl; after = after })
+    where
+      by : (found : Option Row) → IsFirstRecord m first found → IsNextRow m first (reply_row (Ok found))
+      by None none = none
+      by (Some r) next = next

@@ -1,5 +1,5 @@
 -- A walk over the updates that are left of a transaction, the newest first.
-use Rattle.std.specs.Prelude.{◌≡◌, ◌==◌, ◌*◌, ◌+◌, ◌^◌, ◌<◌, ◌≤◌, ◌++◌, ◌∷◌, [], ℕ, Bool, true, false, List, Option, Some, None, IfSome, MatchOption, cond, length, refl}
+use Rattle.std.specs.Prelude.{◌≡◌, ◌==◌, ◌*◌, ◌+◌, ◌^◌, ◌<◌, ◌≤◌, ◌++◌, ◌∷◌, [], ℕ, Bool, true, false, List, Option, Some, None, IfSome, cond, length, refl}
 use Rattle.std.specs.List.{count_by}
 use Rattle.std.proofs.Common.{arith, ap, subst, sym, ◌∙◌}
 use Rattle.std.proofs.lemmas.List.{append_assoc}
@@ -10,8 +10,7 @@ use Rattle.sd_base.specs.declared.page_op.PageOp.{PageOp}
 use Rattle.page_image.specs.declared.page_view.PageView.{PageView}
 use Rattle.log_record.specs.declared.record.LogRecord.{LogRecord}
 use Rattle.log_record.specs.Record.{page_op_of}
-use Rattle.compensation.specs.Left.{is_update_of, uncompensated}
-use Rattle.compensation.specs.Finding.{newest, record_at}
+use Rattle.compensation.specs.Left.{uncompensated}
 use Rattle.node_cache.specs.Cache.{CacheState}
 use Rattle.txn_core.specs.Seats.{OpenTxn, SeatsState, owed, txn_in}
 use Rattle.txn_core.specs.Told.{AreTold, HasRecords}

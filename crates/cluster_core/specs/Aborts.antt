@@ -1,7 +1,6 @@
 -- What an abort finds, and why it gives another answer than that it is done, whatever its devices hold.
 use Rattle.std.specs.Prelude.{◌≡◌, ◌==◌, ◌⊎◌, ◌*◌, ◌+◌, ◌^◌, ◌<◌, ◌≤◌, ◌∷◌, ◌++◌, [], ⊤, ℕ, Bool, true, false, List, Option, Some, None, IfSome, MatchOption, count_by, option_and_then}
 use Rattle.sd_base.specs.Disk.{BlockState}
-use Rattle.sd_base.specs.Shape.{page_count}
 use Rattle.sd_base.specs.declared.names.PageNo.{PageNo}
 use Rattle.sd_base.specs.declared.names.TxnId.{TxnId}
 use Rattle.sd_base.specs.declared.page_op.PageOp.{PageOp}

@@ -121,3 +121,16 @@ abbrev pub IsToldIn : Shape → (ℕ → Option (List ℕ)) → Command → Repl
 IsToldIn s image (asks.Start n) reply = IsToldDamaged (region_of s 1) image reply
 IsToldIn s image (asks.Abort t) reply = ⊤
 IsToldIn s image command reply = IsToldOfPages s image reply
+
+-- ---- the answers of a dump
+
+-- a page of the store couldn't be taken
+abbrev pub IsDumpFault : Shape → Reply → Type 0
+IsDumpFault s reply = (x : PageNo) × (x.0 < page_count s) × IsFaultOfPage s x reply
+
+-- The next record that is asked for, from a key on: it is found in what the node has in memory, or there is none, or a page
+-- of the store couldn't be taken.
+abbrev pub IsRowAnswer : ClusterState → ℕ → Reply → Type 0
+IsRowAnswer c first (says.Row key value) = (first ≤ key.0) × IsFoundIn c key (Some value)
+IsRowAnswer c first says.NoMore = ⊤
+IsRowAnswer c first reply = IsDumpFault c.shape reply

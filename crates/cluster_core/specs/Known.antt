@@ -1,5 +1,5 @@
 -- What a command is refused for by what is in memory.
-use Rattle.std.specs.Prelude.{◌∷◌, [], ◌-◌, ◌*◌, ℕ, Bool, true, false, not, nat_lt, Option, Some, None, Result, Ok, Err}
+use Rattle.std.specs.Prelude.{◌∷◌, [], ◌-◌, ◌*◌, ℕ, Bool, true, false, not, nat_lt, option_map, Option, Some, None, Result, Ok, Err}
 use Rattle.sd_base.specs.declared.device.NodeId.{NodeId}
 use Rattle.sd_base.specs.declared.names.Key.{Key}
 use Rattle.sd_base.specs.declared.names.TxnId.{TxnId}
@@ -7,6 +7,7 @@ use Rattle.private_log.specs.Log.{space}
 use Rattle.record_locks.specs.declared.mode.Mode.{Mode}
 use Rattle.record_locks.specs.declared.mode.Mode.TheVariants as locks
 use Rattle.record_locks.specs.Answer.{lock_answer}
+use Rattle.record_locks.specs.Held.{least_where}
 use Rattle.script_text.specs.declared.command.Command.{Command}
 use Rattle.script_text.specs.declared.command.Command.TheVariants as asks
 use Rattle.script_text.specs.declared.reply.Reply.{Reply}
@@ -61,6 +62,10 @@ no_txn c t = where_so (not (has_txn c.node t)) (says.NotTxn t)
 abbrev pub no_lock : ClusterState → Key → TxnId → Mode → Option Reply
 no_lock c key t mode = lock_refusal (lock_answer c.locks key t mode)
 
+-- a transaction has a lock: the least one that has
+abbrev pub any_lock : ClusterState → Option Reply
+any_lock c = option_map says.Busy (least_where (λ l mode. true) c.locks)
+
 -- the log has no room for so many records
 abbrev pub no_room : ClusterState → ℕ → Option Reply
 no_room c need = where_so (nat_lt (room_in c.node) need) (says.LogFull need (room_in c.node))
@@ -79,7 +84,7 @@ known c (asks.Del t key) = first_of (no_node c t.node ∷ not_up c t.node ∷ no
 known c (asks.Flush n) = first_of (no_node c n ∷ not_up c n ∷ [])
 known c (asks.Stat n) = no_node c n
 known c (asks.Abort t) = first_of (no_node c t.node ∷ not_up c t.node ∷ no_txn c t ∷ [])
-known c (asks.Dump n) = Some says.Bad
+known c (asks.Dump n) = first_of (no_node c n ∷ not_up c n ∷ any_lock c ∷ [])
 
 -- what is told of the node: of one that is up how many records its log has, how many its transactions may still need,
 -- and how many more there is room for

@@ -1,7 +1,7 @@
 ghost use Rattle.std.specs.Prelude.{◌≡◌, ◌≤◌, ◌∷◌, [], OnErr, OnOk};
 ghost use Rattle.script_text.specs.Command.{InRange};
 ghost use Rattle.record_machine.specs.Commands.{first_of};
-ghost use Rattle.cluster_core.specs.Known.{busy, checked, has_txn, known, no_lock, no_node, no_room, no_txn, not_idle, not_up, room_in, state_of};
+ghost use Rattle.cluster_core.specs.Known.{any_lock, busy, checked, has_txn, known, no_lock, no_node, no_room, no_txn, not_idle, not_up, room_in, state_of};
 
 use crate::cluster::Cluster;
 use crate::node::Node;
@@ -30,7 +30,11 @@ impl Cluster {
             Command::Commit(t) | Command::Abort(t) => self.check_txn(t),
             Command::Flush(n) => self.check_up(n),
             Command::Stat(n) => self.check_node(n),
-            Command::Bad | Command::Dump(_) => Err(Reply::Bad),
+            Command::Dump(n) => {
+                self.check_up(n)?;
+                self.check_unlocked()
+            }
+            Command::Bad => Err(Reply::Bad),
         }
     }
 
@@ -98,6 +102,16 @@ impl Cluster {
             return Err(Reply::NotTxn(t));
         }
         Ok(())
+    }
+
+    /// No transaction has a lock.
+    fn check_unlocked(&self) -> Result<(), Reply>
+        ensures { result ≡ checked (any_lock self.now) }
+    {
+        match self.shared.locks.least() {
+            Some(t) => Err(Reply::Busy(t)),
+            None => Ok(()),
+        }
     }
 
     /// The transaction may have the lock.

@@ -1,16 +1,17 @@
-ghost use Rattle.std.specs.Prelude.{◌≡◌, true, false, ℕ, List, Some, None, IsTrue};
+ghost use Rattle.std.specs.Prelude.{◌≡◌, true, false, ℕ, List, Some, None, IsSome, IsTrue};
 ghost use Rattle.sd_base.specs.Calls.{Keeps, Narrows};
 ghost use Rattle.script_text.specs.Command.{InRange};
 ghost use Rattle.script_text.specs.declared.reply.Reply.{Reply};
 ghost use Rattle.script_text.specs.declared.reply.Reply.TheVariants as says;
 ghost use Rattle.record_machine.specs.Commands.{Step};
 ghost use Rattle.record_machine.specs.Machine.{Machine};
+ghost use Rattle.record_machine.specs.Rows.{dumped_by};
 ghost use Rattle.cluster_core.specs.Answering.{reply_deleted, reply_flushed, reply_found, reply_of};
 ghost use Rattle.private_log.specs.Reading.{contents};
 ghost use Rattle.cluster_core.specs.Aborts.{IsToldOfAbort};
 ghost use Rattle.cluster_core.specs.Causes.{IsAnswer, IsToldIn};
 ghost use Rattle.cluster_core.specs.Changes.{WritesBack};
-ghost use Rattle.cluster_core.specs.Footprint.{IsAtHand, KeepsAllButLog, NarrowsBesides};
+ghost use Rattle.cluster_core.specs.Footprint.{HasTaken, IsAtHand, IsAtHandToDelete, KeepsAllButLog, KeepsCovered, MakesRoomAlone, NarrowsBesides, key_of, page_then, says_done};
 ghost use Rattle.cluster_core.specs.Known.{known};
 ghost use Rattle.cluster_core.specs.Ports.{HasCause, IsQuiet, IsServed, OnUp, says_stop};
 ghost use Rattle.cluster_core.specs.Shows.{IsShown};
@@ -63,7 +64,7 @@ fn reply_flushed(written: Result<u32, Reply>) -> Reply
 }
 
 impl Cluster {
-    /// Executes a command.
+    /// Executes a command that gets one reply: `next_record` answers a dump.
     ///
     /// What is refused for what is in memory is refused before anything is done. Where a device call
     /// stops the node, it goes down, and the command ends at once.
@@ -74,6 +75,7 @@ impl Cluster {
         command: &Command,
     ) -> Reply
         requires range { InRange command.now }
+        requires one { dumped_by command.now ≡ None }
         requires served { IsServed self.old (D.state disk.old) (V.state vault.old) }
         requires quiet { IsTrue D.told → IsQuiet self.old (D.state disk.old).block }
         ensures served { IsServed self.new (D.state disk.new) (V.state vault.new) }
@@ -89,7 +91,11 @@ impl Cluster {
         ensures told { IsTrue D.told → known self.old command.now ≡ None → IsToldIn self.old.shape (contents (D.state disk.new).block) command.now result }
         ensures abort_told { IsTrue D.told → known self.old command.now ≡ None → (t : TxnId) → command.now ≡ Command.Abort t → IsToldOfAbort self.new (D.state disk.new).block t.seat result }
         ensures commit_contents { IsTrue D.told → says_stop result ≡ false → (t : TxnId) → command.now ≡ Command.Commit t → KeepsAllButLog self.old.shape (D.state disk.old).block (D.state disk.new).block }
+        ensures commit_covered { IsTrue D.told → (t : TxnId) → command.now ≡ Command.Commit t → KeepsCovered self.old.shape (D.state disk.old).block (D.state disk.new).block }
         ensures append_memory { (t : TxnId) (key : Key) (bytes : List ℕ) → command.now ≡ Command.Append t key bytes → IsAtHand self.old key.0 → (disk.new ≡ disk.old) × (vault.new ≡ vault.old) }
+        ensures room { IsTrue D.told → IsSome (key_of command.now) → says_done result ≡ true → MakesRoomAlone self.old self.new (D.state disk.old).block (D.state disk.new).block }
+        ensures taken { IsTrue D.told → known self.old command.now ≡ None → says_done result ≡ true → (key : Key) → key_of command.now ≡ Some key → (m : Machine) → IsShown self.old (D.state disk.old).block m → HasTaken self.new m key.0 (page_then m command.now) }
+        ensures del_memory { (t : TxnId) (key : Key) → command.now ≡ Command.Del t key → IsAtHandToDelete self.old key.0 → (disk.new ≡ disk.old) × (vault.new ≡ vault.old) }
         ensures put_memory { (t : TxnId) (key : Key) (value : List ℕ) → command.now ≡ Command.Put t key value → IsAtHand self.old key.0 → (disk.new ≡ disk.old) × (vault.new ≡ vault.old) }
         ensures flushed { (n : NodeId) → command.now ≡ Command.Flush n → known self.old command.now ≡ None → says_stop result ≡ false → (count : ℕ) × (result ≡ says.Flushed count) × OnUp self.old.node (λ c old. OnUp self.new.node (λ d new. WritesBack c d count)) }
         ensures stat { (n : NodeId) → command.now ≡ Command.Stat n → (self.new ≡ self.old) × (disk.new ≡ disk.old) × (vault.new ≡ vault.old) }

@@ -7,13 +7,13 @@ ghost use Rattle.record_locks.specs.declared.mode.Mode.TheVariants as locks;
 ghost use Rattle.record_locks.specs.Answer.{lock_answer, may_take};
 ghost use Rattle.script_text.specs.declared.command.Command.TheVariants as asks;
 ghost use Rattle.record_machine.specs.Commands.{MayAnswer, parts};
-ghost use Rattle.record_machine.specs.Machine.{Machine};
+ghost use Rattle.record_machine.specs.Machine.{Machine, home};
 ghost use Rattle.record_machine.specs.Parts.{dos};
 ghost use Rattle.cluster_core.specs.Answering.{reply_found};
 ghost use Rattle.private_log.specs.Reading.{contents};
 ghost use Rattle.cluster_core.specs.Causes.{IsFaultFor, IsFoundIn, IsToldOfPages};
 ghost use Rattle.cluster_core.specs.Changes.{ShowsData};
-ghost use Rattle.cluster_core.specs.Footprint.{NarrowsBesides};
+ghost use Rattle.cluster_core.specs.Footprint.{HasTaken, MakesRoomAlone, NarrowsBesides};
 ghost use Rattle.cluster_core.specs.Ports.{HasCause, IsQuiet, IsServed, OnUp, is_up, says_stop};
 ghost use Rattle.cluster_core.specs.Shows.{IsShown};
 
@@ -64,6 +64,8 @@ impl Cluster {
         ensures shape { self.new.shape ≡ self.old.shape }
         ensures answer { OnOk result (IsTrue D.told → (m : Machine) → IsShown self.old (D.state disk.old).block m → MayAnswer m (asks.Get t key) (reply_found result)) }
         ensures shows { OnOk result (IsTrue D.told → (m : Machine) → IsShown self.old (D.state disk.old).block m → IsShown self.new (D.state disk.new).block (dos (parts m (asks.Get t key)) m)) }
+        ensures taken { OnOk result (IsTrue D.told → (m : Machine) → IsShown self.old (D.state disk.old).block m → HasTaken self.new m key.0 (home m key.0)) }
+        ensures room { OnOk result (IsTrue D.told → MakesRoomAlone self.old self.new (D.state disk.old).block (D.state disk.new).block) }
         ensures stopped { IfErr result (λ why. IsTrue D.told → (m : Machine) → IsShown self.old (D.state disk.old).block m → says_stop why ≡ true) }
     {
         let home = self.take_group(disk, vault, key)?;

@@ -11,6 +11,7 @@ mod changing;
 mod checking;
 mod cluster;
 mod deleting;
+mod dumping;
 mod executing;
 mod flushing;
 mod formatting;

@@ -9,7 +9,7 @@ ghost use Rattle.private_log.specs.Reading.{contents};
 ghost use Rattle.cluster_core.specs.Causes.{IsFaultOfPage, IsToldOfPages};
 ghost use Rattle.cluster_core.specs.Changes.{KeepsSeats, ShowsMap};
 ghost use Rattle.cluster_core.specs.Known.{has_txn};
-ghost use Rattle.cluster_core.specs.Footprint.{NarrowsBesides};
+ghost use Rattle.cluster_core.specs.Footprint.{MadeRoom, NarrowsBesides};
 ghost use Rattle.cluster_core.specs.Ports.{HasCause, IsQuiet, IsServed, OnUp, is_up, says_stop};
 ghost use Rattle.cluster_core.specs.Shows.{IsShown};
 ghost use Rattle.record_machine.specs.Machine.{Machine};
@@ -54,6 +54,7 @@ impl Cluster {
         ensures txns { OnOk result (KeepsSeats self.old.node self.new.node) }
         ensures map { OnOk result (self.old.shape.maps ≤ x.0 → (image : MapImage) → ShowsMap self.old (map_of self.old.shape x) image → ShowsMap self.new (map_of self.old.shape x) image) }
         ensures cached { OnOk result (OnUp self.new.node (λ c seats. IsTrue (is_cached x c))) }
+        ensures made_room { OnOk result (IsTrue D.told → MadeRoom x self.old self.new (D.state disk.old).block (D.state disk.new).block) }
         ensures hit { OnUp self.old.node (λ c seats. IsTrue (is_cached x c)) → (IsOk result) × (self.new ≡ self.old) × (disk.new ≡ disk.old) × (vault.new ≡ vault.old) }
     {
         let fault = match &mut self.node {

@@ -7,11 +7,12 @@ ghost use Rattle.space_map.specs.Entry.{is_free};
 ghost use Rattle.space_map.specs.Image.{MapImage};
 ghost use Rattle.compensation.specs.Inverse.{content};
 ghost use Rattle.node_cache.specs.Cache.{is_cached};
+ghost use Rattle.node_cache.specs.Room.{map_of};
 ghost use Rattle.txn_core.specs.Updates.{FitsSlotOf};
 ghost use Rattle.record_locks.specs.declared.mode.Mode.TheVariants as locks;
 ghost use Rattle.record_locks.specs.Answer.{lock_answer, may_take};
 ghost use Rattle.script_text.specs.declared.reply.Reply.TheVariants as says;
-ghost use Rattle.record_machine.specs.Commands.{Stayed, at_limit, first_of, no_page, takes_target, to_write, where_so};
+ghost use Rattle.record_machine.specs.Commands.{Stayed, at_limit, first_of, no_page, takes_target, target, to_write, where_so};
 ghost use Rattle.record_machine.specs.Commands as wants;
 ghost use Rattle.record_machine.specs.Machine.{Machine, home, new_home, seen};
 ghost use Rattle.record_machine.specs.Parts.{Change as Changed, Lock, dos};
@@ -19,7 +20,7 @@ ghost use Rattle.cluster_core.specs.Answering.{Answers, new_parts, new_takes, re
 ghost use Rattle.private_log.specs.Reading.{contents};
 ghost use Rattle.cluster_core.specs.Causes.{HasNoPage, IsPageFor, IsToldOfPages, IsWriteReason, IsWriteRefusal};
 ghost use Rattle.cluster_core.specs.Changes.{ShowsData, ShowsMap, Suits, length_refusal, new_place, value_after};
-ghost use Rattle.cluster_core.specs.Footprint.{CanWriteAt, FillsNoBlock, IsAtHand, NarrowsBesides};
+ghost use Rattle.cluster_core.specs.Footprint.{CanWriteAt, FillsNoBlock, HasTaken, IsAtHand, KeepsPages, MadeRoom, MakesRoomAlone, NarrowsBesides};
 ghost use Rattle.cluster_core.specs.Known.{checked, has_txn, no_room, room_in};
 ghost use Rattle.cluster_core.specs.Places.{map_number};
 ghost use Rattle.cluster_core.specs.Ports.{HasCause, IsQuiet, IsServed, OnUp, is_up, says_stop};
@@ -129,6 +130,7 @@ impl Cluster {
         ensures shows { OnOk result (IsTrue D.told → (m : Machine) → home m key.0 ≡ Some x.0 → IsShown self.old (D.state disk.old).block m
             → IsShown self.new (D.state disk.new).block (dos (Lock key t locks.Write ∷ Changed t (record { key = key.0; page = x.0; value = value_after what.now (seen m t key.0) }) ∷ []) m)) }
         ensures stopped { IfErr result (λ why. says_stop why ≡ true) }
+        ensures pages { OnOk result (IsTrue D.told → KeepsPages self.old self.new (D.state disk.old).block (D.state disk.new).block) }
         ensures memory { FillsNoBlock self.old 1 → (IsOk result) × (disk.new ≡ disk.old) × (vault.new ≡ vault.old) }
     {
         self.shared.locks.take(key, t, Mode::Write);
@@ -166,6 +168,7 @@ impl Cluster {
         ensures shape { self.new.shape ≡ self.old.shape }
         ensures step { IsTrue D.told → says_stop (reply_of result) ≡ false → (m : Machine) → home m key.0 ≡ Some x.0 → IsShown self.old (D.state disk.old).block m
             → Answers (first_of (at_limit m x.0 ∷ length_refusal what.now (seen m t key.0) ∷ wants.no_room m t.node 2 ∷ [])) result (IsShown self.new (D.state disk.new).block (dos (Lock key t locks.Write ∷ Changed t (record { key = key.0; page = x.0; value = value_after what.now (seen m t key.0) }) ∷ []) m)) (IsShown self.new (D.state disk.new).block m) }
+        ensures pages { OnOk result (IsTrue D.told → KeepsPages self.old self.new (D.state disk.old).block (D.state disk.new).block) }
         ensures memory { FillsNoBlock self.old 1 → (disk.new ≡ disk.old) × (vault.new ≡ vault.old) }
     {
         self.law_of_clusters();
@@ -204,6 +207,8 @@ impl Cluster {
         ensures shape { self.new.shape ≡ self.old.shape }
         ensures step { IsTrue D.told → says_stop (reply_of result) ≡ false → (m : Machine) → home m key.0 ≡ None → IsShown self.old (D.state disk.old).block m
             → Answers (no_page m t.node key.0 (length_refusal what.now (seen m t key.0))) result (IsShown self.new (D.state disk.new).block (dos (new_parts m t key (value_after what.now (seen m t key.0))) m)) (IsShown self.new (D.state disk.new).block m ⊎ IsShown self.new (D.state disk.new).block (dos (new_takes 1 (new_home m key.0)) m)) }
+        ensures taken { OnOk result (IsTrue D.told → (m : Machine) → home m key.0 ≡ None → IsShown self.old (D.state disk.old).block m → HasTaken self.new m key.0 (new_home m key.0)) }
+        ensures made_room { OnOk result (IsTrue D.told → (x : PageNo) × (self.old.shape.maps ≤ x.0) × (map_of self.old.shape x ≡ record { 0 = map_number self.old.shape key.0 }) × MadeRoom x self.old self.new (D.state disk.old).block (D.state disk.new).block) }
         ensures memory { (image : MapImage) → ShowsMap self.old (record { 0 = map_number self.old.shape key.0 }) image → IfSome (position is_free image.entries) (CanWriteAt self.old (map_number self.old.shape key.0) 2)
             → (disk.new ≡ disk.old) × (vault.new ≡ vault.old) }
     {
@@ -245,6 +250,8 @@ impl Cluster {
         ensures shape { self.new.shape ≡ self.old.shape }
         ensures step { IsTrue D.told → says_stop (reply_of result) ≡ false → (m : Machine) → IsShown self.old (D.state disk.old).block m
             → Answers (no_page m t.node key.0 (length_refusal what.now (seen m t key.0))) result (IsShown self.new (D.state disk.new).block (dos (to_write m t key (value_after what.now (seen m t key.0))) m)) (Stayed m (takes_target m t key) (IsShown self.new (D.state disk.new).block)) }
+        ensures taken { OnOk result (IsTrue D.told → (m : Machine) → IsShown self.old (D.state disk.old).block m → HasTaken self.new m key.0 (target m key.0)) }
+        ensures room { OnOk result (IsTrue D.told → MakesRoomAlone self.old self.new (D.state disk.old).block (D.state disk.new).block) }
         ensures memory { IsAtHand self.old key.0 → (disk.new ≡ disk.old) × (vault.new ≡ vault.old) }
     {
         match self.take_group(disk, vault, key)? {

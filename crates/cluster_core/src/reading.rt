@@ -8,13 +8,14 @@ ghost use Rattle.compensation.specs.Inverse.{content};
 ghost use Rattle.frame_pool.specs.Frames.{frame_at};
 ghost use Rattle.node_cache.specs.Cache.{is_cached, page_at};
 ghost use Rattle.cluster_core.specs.Changes.{ShowsData, ShowsMap};
+ghost use Rattle.cluster_core.specs.Dumps.{AreUnused};
 ghost use Rattle.cluster_core.specs.Ports.{OnUp, is_up};
 
 use crate::cluster::Cluster;
 use crate::node::Node;
 use page_image::{identifier, slot};
 use sd_base::{Block, GroupNo, PageNo, Value, page_ident};
-use space_map::{MapEntry, entry, find_group, first_free};
+use space_map::{ENTRIES, MapEntry, entry, find_group, first_free};
 
 /// The identifier of a map page.
 pub(crate) fn map_identifier(b: &Block) -> u64
@@ -109,5 +110,27 @@ impl Cluster {
         ensures there { (v : PageView) × ShowsData self.now x v }
     {
         slot(self.view(x), i)
+    }
+
+    /// The least group from `first` on that has a place of a cached map page, where one below `end` has;
+    /// else `end`.
+    pub(crate) fn next_group(&self, map: PageNo, first: u32, end: u32) -> u32
+        requires up { is_up self.now.node ≡ true }
+        requires map { map.0 < self.now.shape.maps }
+        requires cached { OnUp self.now.node (λ c seats. IsTrue (is_cached map c)) }
+        requires range { first ≤ end }
+        ensures within { (first ≤ result) × (result ≤ end) }
+        ensures none { (image : MapImage) → ShowsMap self.now map image → AreUnused first result image.entries }
+        ensures there { (image : MapImage) × ShowsMap self.now map image }
+    {
+        let mut least = end;
+        for place in 0..ENTRIES {
+            if let MapEntry::Used(g, _) = self.entry_at(map, place) {
+                if first <= g.0 && g.0 < least {
+                    least = g.0;
+                }
+            }
+        }
+        least
     }
 }

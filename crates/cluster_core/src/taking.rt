@@ -12,7 +12,7 @@ ghost use Rattle.record_machine.specs.Parts.{Take, dos, one};
 ghost use Rattle.private_log.specs.Reading.{contents};
 ghost use Rattle.cluster_core.specs.Causes.{HasNoPage, IsFaultFor, IsFaultOfPage, IsPageFor, IsToldOfPages};
 ghost use Rattle.cluster_core.specs.Changes.{ShowsMap};
-ghost use Rattle.cluster_core.specs.Footprint.{HasPlace, NarrowsBesides};
+ghost use Rattle.cluster_core.specs.Footprint.{HasPlace, MadeRoom, MakesRoomAlone, NarrowsBesides};
 ghost use Rattle.cluster_core.specs.Known.{has_txn};
 ghost use Rattle.cluster_core.specs.Places.{map_number, page_number};
 ghost use Rattle.cluster_core.specs.Ports.{HasCause, IsQuiet, IsServed, OnUp, is_up, says_stop};
@@ -57,6 +57,7 @@ impl Cluster {
         ensures map_cached { OnOk result (OnUp self.new.node (λ c seats. IsTrue (is_cached map c))) }
         ensures shows { OnOk result (IsTrue D.told → (m : Machine) → IsShown self.old (D.state disk.old).block m → IsShown self.new (D.state disk.new).block (one (Take (page_number self.old.shape map.0 place) 1) m)) }
         ensures stopped { IfErr result (λ why. IsTrue D.told → (m : Machine) → IsShown self.old (D.state disk.old).block m → says_stop why ≡ true) }
+        ensures made_room { OnOk result (IsTrue D.told → MadeRoom (record { 0 = page_number self.old.shape map.0 place }) self.old self.new (D.state disk.old).block (D.state disk.new).block) }
         ensures hit { HasPlace self.old map.0 place → (IsOk result) × (self.new ≡ self.old) × (disk.new ≡ disk.old) × (vault.new ≡ vault.old) }
     {
         let x = data_page(&self.shape, map, place);
@@ -97,6 +98,8 @@ impl Cluster {
         ensures found { IfOk result (λ found. IsTrue D.told → (m : Machine) → IsShown self.old (D.state disk.old).block m → option_map (λ x. x.0) found ≡ home m key.0) }
         ensures shows { OnOk result (IsTrue D.told → (m : Machine) → IsShown self.old (D.state disk.old).block m → IsShown self.new (D.state disk.new).block (dos (takes_both m 1 key.0 (home m key.0)) m)) }
         ensures stopped { IfErr result (λ why. IsTrue D.told → (m : Machine) → IsShown self.old (D.state disk.old).block m → says_stop why ≡ true) }
+        ensures room { OnOk result (IsTrue D.told → MakesRoomAlone self.old self.new (D.state disk.old).block (D.state disk.new).block) }
+        ensures made_room { IfOk result (λ found. IfNone found (IsTrue D.told → MadeRoom (record { 0 = map_number self.old.shape key.0 }) self.old self.new (D.state disk.old).block (D.state disk.new).block)) }
         ensures hit { (image : MapImage) → ShowsMap self.old (record { 0 = map_number self.old.shape key.0 }) image → IfSome (position (is_used_by (group_of key.0)) image.entries) (HasPlace self.old (map_number self.old.shape key.0))
             → (IsOk result) × (self.new ≡ self.old) × (disk.new ≡ disk.old) × (vault.new ≡ vault.old) }
     {

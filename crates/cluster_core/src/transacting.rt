@@ -4,7 +4,7 @@ ghost use Rattle.record_machine.specs.Machine.{Machine};
 ghost use Rattle.record_machine.specs.Parts.{Begin, Seal, Unlock, dos, one};
 ghost use Rattle.private_log.specs.Log.{space};
 ghost use Rattle.txn_core.specs.Seats.{is_busy, owed};
-ghost use Rattle.cluster_core.specs.Footprint.{KeepsAllButLog, NarrowsBesides};
+ghost use Rattle.cluster_core.specs.Footprint.{KeepsAllButLog, NarrowsBesides, NarrowsToRing};
 ghost use Rattle.cluster_core.specs.Ports.{HasCause, IsQuiet, IsServed, OnUp, is_up, says_stop};
 ghost use Rattle.cluster_core.specs.Shows.{IsShown};
 
@@ -86,6 +86,7 @@ impl Cluster {
         ensures shape { self.new.shape ≡ self.old.shape }
         ensures shows { OnOk result (IsTrue D.told → (m : Machine) → IsShown self.old (D.state disk.old).block m → IsShown self.new (D.state disk.new).block (dos (Seal t ∷ Unlock t ∷ []) m)) }
         ensures stopped { IfErr result (λ why. says_stop why ≡ true) }
+        ensures ring { IsTrue D.told → NarrowsToRing self.old.shape (D.state disk.old).block (D.state disk.new).block }
         ensures contents { OnOk result (IsTrue D.told → KeepsAllButLog self.old.shape (D.state disk.old).block (D.state disk.new).block) }
     {
         let fault = match &mut self.node {

@@ -9,5 +9,7 @@ pub mod SealSteps
 pub mod BackSteps
 pub mod Tops
 pub mod LockSteps
+pub mod RowLaws
+mod TakeSteps
 pub mod FormattedLaws
 pub mod Steps

@@ -1,7 +1,7 @@
 -- The locks after a step, and what they keep from changing.
-use Rattle.std.specs.Prelude.{◌≡◌, ◌≢◌, ◌==◌, ◌⊎◌, ◌%◌, ℕ, Bool, true, false, cond, not, Option, Some, None, IsTrue, refl}
+use Rattle.std.specs.Prelude.{◌≡◌, ◌≢◌, ◌==◌, ◌⊎◌, ◌%◌, ℕ, Bool, true, false, cond, not, Option, Some, None, IsSome, IsTrue, refl}
 use Rattle.std.specs.FinMap as finite
-use Rattle.std.proofs.Common.{inl, inr, ap, sym, ◌∙◌}
+use Rattle.std.proofs.Common.{inl, inr, ap, subst, sym, ◌∙◌}
 use Rattle.std.proofs.lemmas.Bool.{eqb-true}
 use Rattle.sd_base.specs.declared.names.Key.{Key}
 use Rattle.sd_base.specs.declared.names.TxnId.{TxnId}
@@ -9,10 +9,10 @@ use Rattle.compensation.specs.Inverse.{content}
 use Rattle.record_locks.specs.declared.mode.Mode.{Mode}
 use Rattle.record_locks.specs.declared.mode.Mode.TheVariants as locks
 use Rattle.record_locks.specs.Answer.{lock_answer, may_take}
-use Rattle.record_locks.specs.Held.{Held, excludes, mode_of, passing, raised, taken}
+use Rattle.record_locks.specs.Held.{Held, IsLeast, excludes, least_where, mode_of, passing, raised, taken}
 use Rattle.record_locks.specs.Order.{lock, same_txn}
 use Rattle.record_locks.proofs.CompatibleLaws.{IsCompatible-locks_where, IsCompatible-taken}
-use Rattle.record_locks.proofs.HeldLaws.{get-locks_where, get-taken}
+use Rattle.record_locks.proofs.HeldLaws.{IsLeast-least_where, get-locks_where, get-taken}
 use Rattle.record_machine.specs.Machine.{Machine, home, seen}
 use Rattle.record_machine.specs.Parts.{Start, Lock, Take, Unlock, one}
 use Rattle.record_machine.specs.Meaning.{AreLocked, AreLogs, ArePages, Means, Plain, has_written}
@@ -60,6 +60,23 @@ either_mode locks.Write = refl
 -- a transaction that has a lock on a key sees its present record
 pub seen_locked : (p : Plain) (m : Machine) (key : Key) (x : ℕ) (t : TxnId) (mode : Mode) → AreLocked m → ArePages p m → home m key.0 ≡ Some x → mode_of m.locks key t ≡ Some mode → content (p.pages x) (key.0 % 16) ≡ seen m t key.0
 seen_locked p m key x t mode locked pages is had = pages.present key.0 x is t (λ u theirs. sym (locked.apart key t u mode locks.Write had (locked.written u key theirs) (either_mode mode)))
+
+-- where nobody has a lock, nothing is written that isn't committed
+unwritten : (m : Machine) (u : TxnId) (key : Key) → AreLocked m → least_where (λ l mode. true) m.locks ≡ None → has_written m u key.0 ≡ false
+unwritten m u key locked none = by (has_written m u key.0) refl
+  where
+    by : (b : Bool) → has_written m u key.0 ≡ b → has_written m u key.0 ≡ false
+    by false is = is
+    by true is =
+        let free : IsLeast (λ l mode. true) m.locks None = subst (IsLeast (λ l mode. true) m.locks) none (IsLeast-least_where (λ l mode. true) m.locks) in
+        absurd (free (lock key u) (subst (λ o. IsSome (passing (λ l mode. true) (lock key u) o)) (sym (locked.written u key is)) refl))
+
+-- and the slot of a record has the committed one
+pub committed_there : (p : Plain) (m : Machine) (key : Key) (x : ℕ) → AreLocked m → ArePages p m → least_where (λ l mode. true) m.locks ≡ None → home m key.0 ≡ Some x → content (p.pages x) (key.0 % 16) ≡ m.records key.0
+committed_there p m key x locked pages none is =
+    let t : TxnId = record { node = record { 0 = 1 }; seat = 0 } in
+    pages.present key.0 x is t (λ u theirs. let never : true ≡ false = sym theirs ∙ unwritten m u key locked none in cc)
+    ∙ seen_nothing t t m key.0 (m.records key.0) (unwritten m t key locked none)
 
 -- and where its group has no page, there is none
 pub seen_absent : (p : Plain) (m : Machine) (key : ℕ) (t : TxnId) → AreLogs p m → ArePages p m → home m key ≡ None → seen m t key ≡ None

@@ -1,5 +1,5 @@
 -- What a command is answered, and what it does.
-use Rattle.std.specs.Prelude.{◌≡◌, ◌≤◌, ◌^◌, ◌-◌, ◌/◌, ◌++◌, ◌∷◌, [], ℕ, Bool, true, false, not, nat_le, nat_lt, List, Option, Some, None, length, replicate, reverse, take, unwrap_or}
+use Rattle.std.specs.Prelude.{◌≡◌, ◌≤◌, ◌^◌, ◌-◌, ◌/◌, ◌++◌, ◌∷◌, [], ℕ, Bool, true, false, not, nat_le, nat_lt, List, Option, Some, None, length, option_map, replicate, reverse, take, unwrap_or}
 use Rattle.std.specs.List.{flat_map}
 use Rattle.sd_base.specs.declared.device.NodeId.{NodeId}
 use Rattle.sd_base.specs.declared.names.Key.{Key}
@@ -9,6 +9,7 @@ use Rattle.record_locks.specs.declared.mode.Mode.TheVariants as locks
 use Rattle.record_locks.specs.declared.mode.LockAnswer.{LockAnswer}
 use Rattle.record_locks.specs.declared.mode.LockAnswer.TheVariants.{Free, Mine, Conflict, Full}
 use Rattle.record_locks.specs.Answer.{lock_answer}
+use Rattle.record_locks.specs.Held.{least_where}
 use Rattle.script_text.specs.declared.command.Command.{Command}
 use Rattle.script_text.specs.declared.command.Command.TheVariants as asks
 use Rattle.script_text.specs.declared.reply.Reply.{Reply}
@@ -68,6 +69,10 @@ lock_refusal Full = Some says.LocksFull
 abbrev pub no_lock : Machine → Key → TxnId → Mode → Option Reply
 no_lock m key t mode = lock_refusal (lock_answer m.locks key t mode)
 
+-- a transaction has a lock: the least one that has
+abbrev pub any_lock : Machine → Option Reply
+any_lock m = option_map says.Busy (least_where (λ l mode. true) m.locks)
+
 -- no further change may be made of a page
 abbrev pub at_limit : Machine → ℕ → Option Reply
 at_limit m x = where_so (nat_le (2 ^ 63) (m.ident x)) (says.Limit (record { 0 = x }))
@@ -106,8 +111,7 @@ no_deletion m t key = of_record (seen m t key) (home m key)
     of_record (Some value) None = None
     of_record (Some value) (Some x) = first_of (at_limit m x ∷ no_room m t.node 2 ∷ [])
 
--- why a command is refused, if it is: the first of these reasons that there is. A line of a form that the store doesn't
--- know yet is bad.
+-- why a command is refused, if it is: the first of these reasons that there is
 abbrev pub refusal : Machine → Command → Option Reply
 refusal m (asks.Format s) = Some says.Formatted
 refusal m (asks.Start n) = first_of (no_node m n ∷ not_idle m n ∷ [])
@@ -121,7 +125,7 @@ refusal m (asks.Del t key) = first_of (no_node m t.node ∷ not_up m t.node ∷ 
 refusal m (asks.Flush n) = first_of (no_node m n ∷ not_up m n ∷ [])
 refusal m (asks.Stat n) = no_node m n
 refusal m (asks.Abort t) = first_of (no_node m t.node ∷ not_up m t.node ∷ no_txn m t ∷ [])
-refusal m (asks.Dump n) = Some says.Bad
+refusal m (asks.Dump n) = first_of (no_node m n ∷ not_up m n ∷ any_lock m ∷ [])
 
 -- ---- what is done
 
@@ -239,11 +243,13 @@ TellsNode m n r = by (m.mode n)
 abbrev pub TellsFlush : Reply → Type 0
 TellsFlush r = (count : ℕ) × (count ≤ 16) × (r ≡ says.Flushed count)
 
+-- what is answered by one reply. A dump is answered row by row (Rows)
 abbrev pub MayAnswer : Machine → Command → Reply → Type 0
 MayAnswer m (asks.Get t key) r = r ≡ found (seen m t key.0)
 MayAnswer m (asks.Del t key) r = r ≡ deleted (seen m t key.0)
 MayAnswer m (asks.Flush n) r = TellsFlush r
 MayAnswer m (asks.Stat n) r = TellsNode m n.0 r
+MayAnswer m (asks.Dump n) r = ⊥
 MayAnswer m c r = r ≡ says.Fine
 
 -- ---- a step

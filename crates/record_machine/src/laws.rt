@@ -1,4 +1,4 @@
-ghost use Rattle.std.specs.Prelude.{◌≡◌, ◌≢◌, ◌+◌, ◌*◌, ◌%◌, ◌^◌, ◌≤◌, ◌<◌, ◌++◌, ◌∷◌, [], ℕ, false, List, Option, Some, None, IfSome, IsSome, IsTrue, length, replicate};
+ghost use Rattle.std.specs.Prelude.{true, ◌≡◌, ◌≢◌, ◌+◌, ◌*◌, ◌%◌, ◌^◌, ◌≤◌, ◌<◌, ◌++◌, ◌∷◌, [], ℕ, false, List, Option, Some, None, IfSome, IsSome, IsTrue, length, replicate, take};
 ghost use Rattle.sd_base.specs.Shape.{IsShape};
 ghost use Rattle.sd_base.specs.declared.names.Key.{Key};
 ghost use Rattle.sd_base.specs.declared.names.TxnId.{TxnId};
@@ -12,10 +12,13 @@ ghost use Rattle.compensation.specs.Finding.{record_at};
 ghost use Rattle.record_locks.specs.declared.mode.Mode.{Mode};
 ghost use Rattle.record_locks.specs.declared.mode.Mode.TheVariants as locks;
 ghost use Rattle.record_locks.specs.Answer.{lock_answer, may_take};
-ghost use Rattle.record_locks.specs.Held.{mode_of};
+ghost use Rattle.record_locks.specs.Held.{least_where, mode_of};
+ghost use Rattle.script_text.specs.declared.command.Command.{Command};
+ghost use Rattle.record_machine.specs.Commands.{takes};
 ghost use Rattle.record_machine.specs.Machine.{Deed, Machine, Write, deeds_of, formatted, free_place, group_of, home, map_of, newest_of, owed, seen, writes_of};
 ghost use Rattle.record_machine.specs.Parts as part;
 ghost use Rattle.record_machine.specs.Parts.{dos, one};
+ghost use Rattle.record_machine.specs.Rows.{AreRows, HasNone, IsNext, Row};
 ghost use Rattle.record_machine.specs.Meaning.{IsChangedAt, IsUsed, Means, Plain, Tells, born, first_record, has_written, logged, with_map, with_page};
 
 /// A store means the machine's first state when it is formatted.
@@ -24,10 +27,27 @@ pub fn law_of_formatted_stores()
 {}
 
 /// A transaction that has a lock on a key finds its record, as the machine says that it sees it, in the
-/// slot of the page of the key's group. Where the group has no page, it sees none.
+/// slot of the page of the key's group. Where the group has no page, it sees none. Where no transaction
+/// has a lock, the slot has the committed record.
 pub fn law_of_present_records()
     ensures there { (p : Plain) (m : Machine) (key : Key) (x : ℕ) (t : TxnId) (mode : Mode) → Means p m → home m key.0 ≡ Some x → mode_of m.locks key t ≡ Some mode → content (p.pages x) (key.0 % 16) ≡ seen m t key.0 }
     ensures absent { (p : Plain) (m : Machine) (key : ℕ) (t : TxnId) → Means p m → home m key ≡ None → seen m t key ≡ None }
+    ensures committed { (p : Plain) (m : Machine) (key : Key) (x : ℕ) → Means p m → least_where (λ l mode. true) m.locks ≡ None → home m key.0 ≡ Some x → content (p.pages x) (key.0 % 16) ≡ m.records key.0 }
+{}
+
+/// A command that is refused has taken some of its pages and has done no more: records, locks and open
+/// transactions are as they were.
+pub fn law_of_refusals()
+    ensures { (m : Machine) (c : Command) (count : ℕ) → (hold : ℕ → Option ℕ) × (dos (take count (takes m c)) m ≡ record m { hold = hold }) }
+{}
+
+/// The rows of a dump, one after the other: none at first, then one more where the next record is found,
+/// until there is no further one. At each point there are rows that would complete them.
+pub fn law_of_rows()
+    ensures none { (m : Machine) → AreRows m 0 [] }
+    ensures more { (m : Machine) (first : ℕ) (key : Key) (value : List ℕ) (rows : List Row) → AreRows m first rows → IsNext m first key value → AreRows m (key.0 + 1) (rows ++ record { key = key; value = value } ∷ []) }
+    ensures all { (m : Machine) (first : ℕ) (rows : List Row) → first ≤ 2 ^ 32 → AreRows m first rows → HasNone m first → AreRows m (2 ^ 32) rows }
+    ensures rest { (m : Machine) (first : ℕ) (rows : List Row) → first ≤ 2 ^ 32 → AreRows m first rows → (more : List Row) × AreRows m (2 ^ 32) (rows ++ more) }
 {}
 
 /// What each part of a command needs, and what it leaves. A node that starts, and a page that is taken,

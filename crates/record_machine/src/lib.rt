@@ -7,4 +7,7 @@
 
 mod laws;
 
-pub use laws::{law_of_aborts, law_of_formatted_stores, law_of_parts, law_of_present_records};
+pub use laws::{
+    law_of_aborts, law_of_formatted_stores, law_of_parts, law_of_present_records, law_of_refusals,
+    law_of_rows,
+};

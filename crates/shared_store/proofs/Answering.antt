@@ -1,31 +1,40 @@
 -- What a command is answered that a store is asked.
-use Rattle.std.specs.Prelude.{nat_lt, Option}
+use Rattle.std.specs.Prelude.{⊤, ◌∷◌, [], nat_lt, not, option_map, Option, IfSome}
 use Rattle.std.proofs.Common.{◌≡◌, ◌∙◌, ℕ, Bool, true, false, Some, None, refl, ap, subst, sym}
 use Rattle.sd_base.specs.declared.device.NodeId.{NodeId}
+use Rattle.sd_base.specs.declared.names.TxnId.{TxnId}
 use Rattle.sd_base.specs.Disk.{DiskState}
 use Rattle.script_text.specs.declared.command.Command.{Command}
 use Rattle.script_text.specs.declared.command.Command.TheVariants as asks
 use Rattle.script_text.specs.declared.reply.Reply.{Reply}
 use Rattle.script_text.specs.declared.reply.Reply.TheVariants as says
-use Rattle.record_machine.specs.Commands.{Step, where_so}
+use Rattle.record_machine.specs.Commands.{Step, first_of, refusal, where_so}
+use Rattle.record_machine.specs.Commands as wants
 use Rattle.record_machine.specs.Machine.{Machine}
+use Rattle.record_machine.specs.Rows.{RowStep, dumped_by}
 use Rattle.cluster_core.specs.Cluster.{ClusterState}
 use Rattle.cluster_core.specs.Device.{ComesToRest}
-use Rattle.cluster_core.specs.Causes.{IsAnswer}
+use Rattle.cluster_core.specs.Causes.{IsAnswer, IsRowAnswer}
 use Rattle.cluster_core.specs.declared.node.Node.{Node}
 use Rattle.cluster_core.specs.declared.node.Node.TheVariants.{Idle, Up, Down}
 use Rattle.cluster_core.specs.Known.{known, no_node, state_of}
-use Rattle.cluster_core.specs.Ports.{says_stop}
+use Rattle.cluster_core.specs.Ports.{is_up, says_stop}
 use Rattle.cluster_core.specs.Shows.{IsShown}
+use Rattle.shared_store.specs.Answering.{IsRowFrom, NextAnswered, NextOpen}
 use Rattle.shared_store.specs.Store.{Leaves, Shows}
-use Rattle.shared_store.specs.StoreState.{StoreState, shut, opened, stopped, Answered, AnswersOpen, AnswersStopped, MayStop}
+use Rattle.shared_store.specs.StoreState.{StoreState, shut, opened, stopped, AnsweredOnce, AnswersOpen, AnswersStopped, MayStop}
 use Rattle.shared_store.specs.declared.store.Store.TheVariants.{Closed, Open}
 
--- An open cluster has answered a command: it is refused at once for what is known, and else it is a step of the machine.
+-- An open cluster has answered a command that gets one reply: it is refused at once for what is known, and else it is a step of the machine.
 module _ (c next : ClusterState) (command : Command) (reply : Reply) (old new : DiskState)
+    (single : dumped_by command ≡ None)
     (refused : (why : Reply) → known c command ≡ Some why → reply ≡ why)
     (answer : known c command ≡ None → IsAnswer next command reply)
     (step : says_stop reply ≡ false → (m : Machine) → IsShown c old.block m → Step m command reply (IsShown next new.block)) where
+  -- which is no dump
+  no_dump : {P : Type 0} (n : NodeId) → command ≡ asks.Dump n → P
+  no_dump n is = let never : Some n ≡ None = ap dumped_by (sym is) ∙ single in cc
+
   -- it may stop in a command that isn't refused
   may_stop : (asked : Command) → command ≡ asked → says_stop reply ≡ true → MayStop asked
   may_stop (asks.Format s) is stops = let e = refused _ (ap (known c) is) in cc
@@ -54,7 +63,8 @@ module _ (c next : ClusterState) (command : Command) (reply : Reply) (old new : 
           none_stops : (b : Bool) → where_so b (says.NoNode n) ≡ Some why → reply ≡ why → ⊥
           none_stops true so same = let which : says.NoNode n ≡ why = cc in let never : true ≡ false = sym stops ∙ ap says_stop (same ∙ sym which) in cc
           none_stops false so same = cc
-  may_stop asked is stops = let e = refused _ (ap (known c) is) in cc
+  may_stop (asks.Dump n) is stops = no_dump n is
+  may_stop asks.Bad is stops = let e = refused _ (ap (known c) is) in cc
 
   while_stopped : (asked : Command) → command ≡ asked → AnswersStopped asked reply
   while_stopped (asks.Format s) is = refused _ (ap (known c) is)
@@ -68,16 +78,71 @@ module _ (c next : ClusterState) (command : Command) (reply : Reply) (old new : 
   while_stopped (asks.Abort t) is = tt
   while_stopped (asks.Flush n) is = tt
   while_stopped (asks.Stat n) is = tt
-  while_stopped asked is = refused _ (ap (known c) is)
+  while_stopped (asks.Dump n) is = no_dump n is
+  while_stopped asks.Bad is = refused _ (ap (known c) is)
 
   while_open : (m : Machine) → IsShown c old.block m → (stops : Bool) → says_stop reply ≡ stops → AnswersOpen stops m command reply (Shows (Open next) new)
   while_open m shown true is = (may_stop command refl is, tt)
   while_open m shown false is = step is m shown
 
-  pub open_answers : (disk vault : ℕ) (state : StoreState) → Shows (Open c) old state → Answered disk vault state command reply (Shows (Open next) new)
+  pub open_answers : (disk vault : ℕ) (state : StoreState) → Shows (Open c) old state → AnsweredOnce disk vault state command reply (Shows (Open next) new)
   open_answers disk vault (shut seal) shows = absurd shows
   open_answers disk vault (opened m) shows = while_open m shows (says_stop reply) refl
   open_answers disk vault stopped shows = (while_stopped command refl, tt)
+
+-- ---- the next record
+
+-- the reply is no row, nor that there is no further one
+abbrev pub IsNoRow : Reply → Type 0
+IsNoRow (says.Row key value) = ⊥
+IsNoRow says.NoMore = ⊥
+IsNoRow reply = ⊤
+
+no_row : (none down : Bool) (locked : Option TxnId) (n : NodeId) → IfSome (first_of (where_so none (says.NoNode n) ∷ where_so down (says.NotUp n) ∷ option_map says.Busy locked ∷ [])) IsNoRow
+no_row true down locked n = tt
+no_row false true locked n = tt
+no_row false false None n = tt
+no_row false false (Some t) n = tt
+
+known_no_row : (c : ClusterState) (n : NodeId) (why : Reply) → known c (asks.Dump n) ≡ Some why → IsNoRow why
+known_no_row c n why is = subst (λ o. IfSome o IsNoRow) is (no_row (nat_lt c.shape.nodes n.0) (not (is_up c.node)) _ n)
+
+pub refusal_no_row : (m : Machine) (n : NodeId) (why : Reply) → refusal m (asks.Dump n) ≡ Some why → IsNoRow why
+refusal_no_row m n why is = subst (λ o. IfSome o IsNoRow) is (no_row (nat_lt m.shape.nodes n.0) (not (wants.is_up (m.mode n.0))) _ n)
+
+-- an open cluster was asked for the next record of a dump
+pub open_rising : (c next : ClusterState) (n : NodeId) (first : ℕ) (reply : Reply) → ((why : Reply) → known c (asks.Dump n) ≡ Some why → reply ≡ why) → (known c (asks.Dump n) ≡ None → IsRowAnswer next first reply) → IsRowFrom first reply
+open_rising c next n first reply refused answer = by (known c (asks.Dump n)) refl
+  where
+    no_key : (why : Reply) → IsNoRow why → IsRowFrom first why
+    no_key (says.Row key value) none = absurd none
+    no_key why none = tt
+
+    key_from : (reply : Reply) → IsRowAnswer next first reply → IsRowFrom first reply
+    key_from (says.Row key value) is = is.0
+    key_from reply is = tt
+
+    by : (o : Option Reply) → known c (asks.Dump n) ≡ o → IsRowFrom first reply
+    by None is = key_from reply (answer is)
+    by (Some why) is = subst (IsRowFrom first) (sym (refused why is)) (no_key why (known_no_row c n why is))
+
+pub open_next : (c next : ClusterState) (n : NodeId) (first : ℕ) (reply : Reply) (old new : DiskState) → (says_stop reply ≡ false → (m : Machine) → IsShown c old.block m → RowStep m n first reply (IsShown next new.block))
+    → (state : StoreState) → Shows (Open c) old state → NextAnswered state n first reply (Shows (Open next) new)
+open_next c next n first reply old new step (shut seal) shows = absurd shows
+open_next c next n first reply old new step (opened m) shows = by (says_stop reply) refl
+  where
+    by : (stops : Bool) → says_stop reply ≡ stops → NextOpen stops m n first reply (Shows (Open next) new)
+    by true is = tt
+    by false is = step is m shows
+open_next c next n first reply old new step stopped shows = tt
+
+-- a closed store was asked for it
+pub closed_next : (d : DiskState) (n : NodeId) (first : ℕ) (state : StoreState) → Shows Closed d state → NextAnswered state n first says.Closed (Shows Closed d)
+closed_next d n first (shut seal) shows = (refl, shows)
+closed_next d n first (opened m) shows = absurd shows
+closed_next d n first stopped shows = absurd shows
+
+-- ---- the end
 
 -- a store that was closed has left what it showed
 pub open_leaves : (c : ClusterState) (old new : DiskState) (state : StoreState) → Shows (Open c) old state → ComesToRest old.block new.block → Leaves new state

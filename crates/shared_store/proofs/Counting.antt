@@ -1,12 +1,14 @@
--- One more reply is counted.
+-- More replies are counted.
 use Rattle.std.proofs.Common.{◌≡◌, ◌⊎◌, ◌==◌, ◌+◌, ◌≤◌, ◌∙◌, ℕ, Bool, true, false, List, [], ◌∷◌, ◌++◌, cond, inl, inr, refl, sym, subst, arith}
 use Rattle.std.specs.List.{count_by}
 use Rattle.std.proofs.lemmas.Bool.Decides.{nat_tests}
-use Rattle.std.proofs.lemmas.List.Sums.{fold_push}
-use Rattle.sd_base.specs.Disk.{Rose}
-use Rattle.sd_base.specs.Faults.{Grew}
+use Rattle.std.specs.Prelude.{map}
+use Rattle.std.proofs.lemmas.List.Sums.{fold_push, sum_by-append}
+use Rattle.sd_base.specs.Disk.{Rose, Rose-after}
+use Rattle.sd_base.specs.Faults.{Grew, Grew-same}
 use Rattle.script_text.specs.declared.reply.Reply.{Reply}
 use Rattle.script_text.specs.declared.reply.Reply.TheVariants as says
+use Rattle.record_machine.specs.Rows.{Row, row_reply}
 use Rattle.shared_store.specs.Causes.{AreCounted, HasCause, RoseBy, is_fault_of, is_stop_of}
 use Rattle.shared_store.specs.Devices.{Devices}
 
@@ -58,3 +60,42 @@ AreCounted-after replies a b c counted disk vault = record {
   stops = λ n low high. omega (arith, counted.stops n (omega (arith, disk.cuts n)) (omega (arith, vault.cuts n)), disk.cuts n, vault.cuts n);
   faults = λ n low high. omega (arith, counted.faults n (omega (arith, disk.faults n)) (omega (arith, vault.faults n)), disk.faults n, vault.faults n);
 }
+
+-- one reply
+pub AreCounted-one : (reply : Reply) (a b : Devices) → Grew a.disk b.disk → Grew a.vault b.vault → HasCause reply a b → AreCounted (reply ∷ []) a b
+AreCounted-one reply a b disk vault cause = AreCounted-more reply [] a a b (AreCounted-none a) disk vault cause
+
+-- replies, and those behind them
+pub AreCounted-then : (replies more : List Reply) (a b c : Devices) → AreCounted replies a b → AreCounted more b c → Grew b.disk c.disk → Grew b.vault c.vault → AreCounted (replies ++ more) a c
+AreCounted-then replies more a b c first then disk vault = record {
+  stops = λ n low high.
+      rw (sum_by-append (λ r. cond (is_stop_of n r) 1 0) replies more)
+      (omega (arith, first.stops n (omega (arith, disk.cuts n)) (omega (arith, vault.cuts n)), then.stops n low high));
+  faults = λ n low high.
+      rw (sum_by-append (λ r. cond (is_fault_of n r) 1 0) replies more)
+      (omega (arith, first.faults n (omega (arith, disk.faults n)) (omega (arith, vault.faults n)), then.faults n low high));
+}
+
+-- rows count for nothing
+pub AreCounted-rows : (rows : List Row) (a : Devices) → AreCounted (map row_reply rows) a a
+AreCounted-rows [] a = AreCounted-none a
+AreCounted-rows (row ∷ rows) a =
+    AreCounted-then (row_reply row ∷ []) (map row_reply rows) a a a (AreCounted-one (row_reply row) a a (Grew-same a.disk) (Grew-same a.vault) tt) (AreCounted-rows rows a) (Grew-same a.disk) (Grew-same a.vault)
+
+-- a cause that came later
+pub HasCause-after : (reply : Reply) (a b c : Devices) → Grew a.disk b.disk → Grew a.vault b.vault → HasCause reply b c → HasCause reply a c
+HasCause-after (says.Stopped n) a b c disk vault cause = (
+  cause.0,
+  elim cause.1 [
+    | inl rose ↦ inl (Rose-after (a.disk.cuts 1) (b.disk.cuts 1) (c.disk.cuts 1) (disk.cuts 1) rose)
+    | inr rose ↦ inr (Rose-after (a.vault.cuts 1) (b.vault.cuts 1) (c.vault.cuts 1) (vault.cuts 1) rose)
+  ],
+)
+HasCause-after (says.Fault n) a b c disk vault cause = (
+  cause.0,
+  elim cause.1 [
+    | inl rose ↦ inl (Rose-after (a.disk.faults 1) (b.disk.faults 1) (c.disk.faults 1) (disk.faults 1) rose)
+    | inr rose ↦ inr (Rose-after (a.vault.faults 1) (b.vault.faults 1) (c.vault.faults 1) (vault.faults 1) rose)
+  ],
+)
+HasCause-after reply a b c disk vault cause = tt

@@ -3,4 +3,7 @@ mod Counting
 mod Running
 mod Formats
 mod Answering
+mod Dumping
+mod Sending
 mod Serving
+mod Stating

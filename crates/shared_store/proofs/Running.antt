@@ -1,12 +1,17 @@
 -- A run goes on by one line, and ends in other words.
-use Rattle.std.proofs.Common.{◌≡◌, ℕ, Bool, true, false, List, [], ◌∷◌, ◌++◌, Option, Some, None, refl}
+use Rattle.std.proofs.Common.{◌≡◌, ℕ, Bool, true, false, List, [], ◌∷◌, ◌++◌, Option, Some, None, inl, inr, refl, ap, subst, sym}
+use Rattle.sd_base.specs.declared.device.NodeId.{NodeId}
 use Rattle.script_text.specs.Command.{Means}
 use Rattle.script_text.specs.declared.command.Command.{Command}
+use Rattle.script_text.specs.declared.command.Command.TheVariants as asks
 use Rattle.script_text.specs.declared.reply.Reply.{Reply}
 use Rattle.record_machine.specs.Commands.{Step, refusal}
 use Rattle.record_machine.specs.Machine.{Machine}
+use Rattle.record_machine.specs.Rows.{DumpStep, Takes, dumped_by}
 use Rattle.cluster_core.specs.Ports.{says_stop}
-use Rattle.shared_store.specs.StoreState.{StoreState, shut, opened, stopped, Answered, AnswersOpen, Run}
+use Rattle.shared_store.specs.StoreState.{StoreState, shut, opened, stopped, Answered, AnsweredOnce, AnswersDump, AnswersOpen, Run}
+
+-- ---- the same answers, with more that holds of the states after them
 
 Step-map : (m : Machine) (c : Command) (r : Reply) (S T : Machine → Type 0) → ((k : Machine) → S k → T k) → Step m c r S → Step m c r T
 Step-map m c r S T f step = by (refusal m c) refl
@@ -19,21 +24,122 @@ AnswersOpen-map : (stops : Bool) (m : Machine) (c : Command) (r : Reply) (S T : 
 AnswersOpen-map true m c r S T f a = (a.0, f stopped a.1)
 AnswersOpen-map false m c r S T f a = Step-map m c r (λ k. S (opened k)) (λ k. T (opened k)) (λ k. f (opened k)) a
 
-Answered-map : (disk vault : ℕ) (state : StoreState) (c : Command) (r : Reply) (S T : StoreState → Type 0) → ((k : StoreState) → S k → T k) → Answered disk vault state c r S → Answered disk vault state c r T
-Answered-map disk vault (shut seal) c r S T f a = (a.0, f _ a.1)
-Answered-map disk vault (opened m) c r S T f a = AnswersOpen-map (says_stop r) m c r S T f a
-Answered-map disk vault stopped c r S T f a = (a.0, f stopped a.1)
+AnsweredOnce-map : (disk vault : ℕ) (state : StoreState) (c : Command) (r : Reply) (S T : StoreState → Type 0) → ((k : StoreState) → S k → T k) → AnsweredOnce disk vault state c r S → AnsweredOnce disk vault state c r T
+AnsweredOnce-map disk vault (shut seal) c r S T f a = (a.0, f _ a.1)
+AnsweredOnce-map disk vault (opened m) c r S T f a = AnswersOpen-map (says_stop r) m c r S T f a
+AnsweredOnce-map disk vault stopped c r S T f a = (a.0, f stopped a.1)
 
-pub Run-map : (disk vault : ℕ) (state : StoreState) (lines : List (List ℕ)) (replies : List Reply) (S T : StoreState → Type 0) → ((k : StoreState) → S k → T k) → Run disk vault state lines replies S → Run disk vault state lines replies T
+pub Takes-map : (m : Machine) (n : NodeId) (S T : Machine → Type 0) → ((k : Machine) → S k → T k) → Takes m n S → Takes m n T
+Takes-map m n S T f t = record { hold = t.hold; taken = t.taken; after = f _ t.after }
+
+DumpStep-map : (m : Machine) (n : NodeId) (said : List Reply) (S T : Machine → Type 0) → ((k : Machine) → S k → T k) → DumpStep m n said S → DumpStep m n said T
+DumpStep-map m n said S T f step = by (refusal m (asks.Dump n)) refl
+  where
+    by : (o : Option Reply) → refusal m (asks.Dump n) ≡ o → DumpStep m n said T
+    by None is = let h = rw is at step in rw is (h.0, Takes-map m n S T f h.1)
+    by (Some why) is = let h = rw is at step in rw is (h.0, f m h.1)
+
+AnswersDump-map : (state : StoreState) (n : NodeId) (said : List Reply) (S T : StoreState → Type 0) → ((k : StoreState) → S k → T k) → AnswersDump state n said S → AnswersDump state n said T
+AnswersDump-map (shut seal) n said S T f a = (a.0, f (shut seal) a.1)
+AnswersDump-map (opened m) n said S T f (inl step) = inl (DumpStep-map m n said (λ k. S (opened k)) (λ k. T (opened k)) (λ k. f (opened k)) step)
+AnswersDump-map (opened m) n said S T f (inr stop) = inr (stop.0, f stopped stop.1)
+AnswersDump-map stopped n said S T f a = f stopped a
+
+Answered-map : (disk vault : ℕ) (state : StoreState) (c : Command) (said : List Reply) (S T : StoreState → Type 0) → ((k : StoreState) → S k → T k) → Answered disk vault state c said S → Answered disk vault state c said T
+Answered-map disk vault state c said S T f a = by (dumped_by c) refl
+  where
+    by : (o : Option NodeId) → dumped_by c ≡ o → Answered disk vault state c said T
+    by None is = let h = rw is at a in rw is (h.0, h.1, AnsweredOnce-map disk vault state c h.0 S T f h.2)
+    by (Some n) is = let h = rw is at a in rw is (AnswersDump-map state n said S T f h)
+
+pub Run-map : (disk vault : ℕ) (state : StoreState) (lines : List (List ℕ)) (replies : List (List Reply)) (S T : StoreState → Type 0) → ((k : StoreState) → S k → T k) → Run disk vault state lines replies S → Run disk vault state lines replies T
 Run-map disk vault state [] [] S T f run = f state run
-Run-map disk vault state (line ∷ lines) (reply ∷ replies) S T f run =
-    (run.0, run.1, Answered-map disk vault state run.0 reply (λ k. Run disk vault k lines replies S) (λ k. Run disk vault k lines replies T) (λ k. Run-map disk vault k lines replies S T f) run.2)
-Run-map disk vault state [] (reply ∷ replies) S T f run = absurd run
+Run-map disk vault state (line ∷ lines) (said ∷ replies) S T f run =
+    (run.0, run.1, Answered-map disk vault state run.0 said (λ k. Run disk vault k lines replies S) (λ k. Run disk vault k lines replies T) (λ k. Run-map disk vault k lines replies S T f) run.2)
+Run-map disk vault state [] (said ∷ replies) S T f run = absurd run
 Run-map disk vault state (line ∷ lines) [] S T f run = absurd run
 
-pub Run-more : (disk vault : ℕ) (state : StoreState) (lines : List (List ℕ)) (replies : List Reply) (line : List ℕ) (command : Command) (reply : Reply) (S T : StoreState → Type 0) → Means line command → ((k : StoreState) → S k → Answered disk vault k command reply T) → Run disk vault state lines replies S → Run disk vault state (lines ++ line ∷ []) (replies ++ reply ∷ []) T
-Run-more disk vault state [] [] line command reply S T means answered run = (command, means, answered state run)
-Run-more disk vault state (l ∷ lines) (r ∷ replies) line command reply S T means answered run =
-    (run.0, run.1, Answered-map disk vault state run.0 r (λ k. Run disk vault k lines replies S) (λ k. Run disk vault k (lines ++ line ∷ []) (replies ++ reply ∷ []) T) (λ k. Run-more disk vault k lines replies line command reply S T means answered) run.2)
-Run-more disk vault state [] (r ∷ replies) line command reply S T means answered run = absurd run
-Run-more disk vault state (l ∷ lines) [] line command reply S T means answered run = absurd run
+-- ---- the state that they end in
+
+Step-end : (m : Machine) (c : Command) (r : Reply) (S : Machine → Type 0) → Step m c r S → (k : Machine) × S k × Step m c r (λ j. j ≡ k)
+Step-end m c r S step = by (refusal m c) refl
+  where
+    by : (o : Option Reply) → refusal m c ≡ o → (k : Machine) × S k × Step m c r (λ j. j ≡ k)
+    by None is = let h = rw is at step in (_, h.1, rw is (h.0, refl))
+    by (Some why) is = let h = rw is at step in (_, h.1.after, rw is (h.0, record { count = h.1.count; after = refl }))
+
+AnswersOpen-end : (stops : Bool) (m : Machine) (c : Command) (r : Reply) (S : StoreState → Type 0) → AnswersOpen stops m c r S → (k : StoreState) × S k × AnswersOpen stops m c r (λ j. j ≡ k)
+AnswersOpen-end true m c r S a = (stopped, a.1, (a.0, refl))
+AnswersOpen-end false m c r S a =
+    let end = Step-end m c r (λ k. S (opened k)) a in
+    (opened end.0, end.1, Step-map m c r (λ j. j ≡ end.0) (λ j. opened j ≡ opened end.0) (λ j. ap opened) end.2)
+
+AnsweredOnce-end : (disk vault : ℕ) (state : StoreState) (c : Command) (r : Reply) (S : StoreState → Type 0) → AnsweredOnce disk vault state c r S → (k : StoreState) × S k × AnsweredOnce disk vault state c r (λ j. j ≡ k)
+AnsweredOnce-end disk vault (shut seal) c r S a = (_, a.1, (a.0, refl))
+AnsweredOnce-end disk vault (opened m) c r S a = AnswersOpen-end (says_stop r) m c r S a
+AnsweredOnce-end disk vault stopped c r S a = (stopped, a.1, (a.0, refl))
+
+DumpStep-end : (m : Machine) (n : NodeId) (said : List Reply) (S : Machine → Type 0) → DumpStep m n said S → (k : Machine) × S k × DumpStep m n said (λ j. j ≡ k)
+DumpStep-end m n said S step = by (refusal m (asks.Dump n)) refl
+  where
+    by : (o : Option Reply) → refusal m (asks.Dump n) ≡ o → (k : Machine) × S k × DumpStep m n said (λ j. j ≡ k)
+    by None is = let h = rw is at step in (_, h.1.after, rw is (h.0, record { hold = h.1.hold; taken = h.1.taken; after = refl }))
+    by (Some why) is = let h = rw is at step in (m, h.1, rw is (h.0, refl))
+
+AnswersDump-end : (state : StoreState) (n : NodeId) (said : List Reply) (S : StoreState → Type 0) → AnswersDump state n said S → (k : StoreState) × S k × AnswersDump state n said (λ j. j ≡ k)
+AnswersDump-end (shut seal) n said S a = (shut seal, a.1, (a.0, refl))
+AnswersDump-end (opened m) n said S (inl step) =
+    let end = DumpStep-end m n said (λ k. S (opened k)) step in
+    (opened end.0, end.1, inl (DumpStep-map m n said (λ j. j ≡ end.0) (λ j. opened j ≡ opened end.0) (λ j. ap opened) end.2))
+AnswersDump-end (opened m) n said S (inr stop) = (stopped, stop.1, inr (stop.0, refl))
+AnswersDump-end stopped n said S a = (stopped, a, refl)
+
+Answered-end : (disk vault : ℕ) (state : StoreState) (c : Command) (said : List Reply) (S : StoreState → Type 0) → Answered disk vault state c said S → (k : StoreState) × S k × Answered disk vault state c said (λ j. j ≡ k)
+Answered-end disk vault state c said S a = by (dumped_by c) refl
+  where
+    by : (o : Option NodeId) → dumped_by c ≡ o → (k : StoreState) × S k × Answered disk vault state c said (λ j. j ≡ k)
+    by None is =
+        let h = rw is at a in
+        let end = AnsweredOnce-end disk vault state c h.0 S h.2 in (end.0, end.1, rw is (h.0, h.1, end.2))
+    by (Some n) is =
+        let h = rw is at a in
+        let end = AnswersDump-end state n said S h in (end.0, end.1, rw is (end.2))
+
+Run-end : (disk vault : ℕ) (state : StoreState) (lines : List (List ℕ)) (replies : List (List Reply)) (S : StoreState → Type 0) → Run disk vault state lines replies S → (k : StoreState) × S k × Run disk vault state lines replies (λ j. j ≡ k)
+Run-end disk vault state [] [] S run = (state, run, refl)
+Run-end disk vault state (line ∷ lines) (said ∷ replies) S run =
+    let first = Answered-end disk vault state run.0 said (λ k. Run disk vault k lines replies S) run.2 in
+    let end = Run-end disk vault first.0 lines replies S first.1 in (
+      end.0,
+      end.1,
+      (
+        run.0,
+        run.1,
+        Answered-map disk vault state run.0 said (λ j. j ≡ first.0) (λ j. Run disk vault j lines replies (λ i. i ≡ end.0))
+            (λ j is. subst (λ i. Run disk vault i lines replies (λ k. k ≡ end.0)) (sym is) end.2) first.2,
+      ),
+    )
+Run-end disk vault state [] (said ∷ replies) S run = absurd run
+Run-end disk vault state (line ∷ lines) [] S run = absurd run
+
+-- ---- one more line
+
+-- with replies that it gets from each state which the run may end in
+pub Run-more : (disk vault : ℕ) (state : StoreState) (lines : List (List ℕ)) (replies : List (List Reply)) (line : List ℕ) (command : Command) (said : List Reply) (S T : StoreState → Type 0) → Means line command → ((k : StoreState) → S k → Answered disk vault k command said T) → Run disk vault state lines replies S → Run disk vault state (lines ++ line ∷ []) (replies ++ said ∷ []) T
+Run-more disk vault state [] [] line command said S T means answered run = (command, means, answered state run)
+Run-more disk vault state (l ∷ lines) (r ∷ replies) line command said S T means answered run =
+    (run.0, run.1, Answered-map disk vault state run.0 r (λ k. Run disk vault k lines replies S) (λ k. Run disk vault k (lines ++ line ∷ []) (replies ++ said ∷ []) T) (λ k. Run-more disk vault k lines replies line command said S T means answered) run.2)
+Run-more disk vault state [] (r ∷ replies) line command said S T means answered run = absurd run
+Run-more disk vault state (l ∷ lines) [] line command said S T means answered run = absurd run
+
+-- with replies that hang on the state which the run has ended in
+pub Run-chosen : (disk vault : ℕ) (state : StoreState) (lines : List (List ℕ)) (replies : List (List Reply)) (line : List ℕ) (command : Command) (S T : StoreState → Type 0) (P : List Reply → Type 0) → Means line command
+    → ((k : StoreState) → S k → (said : List Reply) × Answered disk vault k command said T × P said)
+    → Run disk vault state lines replies S → (said : List Reply) × Run disk vault state (lines ++ line ∷ []) (replies ++ said ∷ []) T × P said
+Run-chosen disk vault state lines replies line command S T P means answered run =
+    let end = Run-end disk vault state lines replies S run in
+    let last = answered end.0 end.1 in (
+      last.0,
+      Run-more disk vault state lines replies line command last.0 (λ j. j ≡ end.0) T means (λ j is. subst (λ i. Answered disk vault i command last.0 T) (sym is) last.1) end.2,
+      last.2,
+    )

@@ -1,6 +1,7 @@
 -- One byte more of a job.
-use Rattle.std.proofs.Common.{◌≡◌, ◌≢◌, ℕ, Bool, true, false, List, [], ◌∷◌, ◌++◌, ◌∙◌, take, sym, ap, subst, refl}
+use Rattle.std.proofs.Common.{◌≡◌, ◌≢◌, ℕ, Bool, true, false, List, [], ◌∷◌, ◌++◌, ◌∙◌, take, sym, ap, subst, refl, append_assoc}
 use Rattle.std.proofs.lemmas.List.{flat_map_more, append-nil}
+use Rattle.std.proofs.lemmas.List.Concat.{flat_map-append}
 use Rattle.sd_base.specs.Stream.{SinkState, SourceState}
 use Rattle.script_text.specs.Command.{Means}
 use Rattle.script_text.specs.Lines.{EndsLine, answered, is_silent, lines_read}
@@ -8,7 +9,8 @@ use Rattle.script_text.specs.Reply.{reply_text}
 use Rattle.script_text.specs.declared.command.Command.{Command}
 use Rattle.script_text.specs.declared.reply.Reply.{Reply}
 use Rattle.script_text.proofs.Lining.{Splits-none, Splits-byte, Splits-line, answered-silent, answered-spoken, answered-with_rest}
-use Rattle.shared_store.specs.Causes.{AreCounted, HasCause}
+use Rattle.shared_store.specs.Answering.{Sends, SendsPart}
+use Rattle.shared_store.specs.Causes.{AreCounted}
 use Rattle.shared_store.specs.Devices.{Devices, GoesOn}
 use Rattle.shared_store.specs.Job.{Tells, TellsJob, beginning}
 use Rattle.shared_store.specs.LineBuffer.{HoldsLine}
@@ -16,14 +18,14 @@ use Rattle.shared_store.specs.Output.{IsPart}
 use Rattle.shared_store.specs.Serving.{Served}
 use Rattle.shared_store.specs.Store.{Shows, ShowsSeal}
 use Rattle.shared_store.specs.StoreState.{Answered, Seal, StoreState}
-use Rattle.shared_store.specs.Transcript.{Beginning, RunFrom, Transcribes, TranscribesPart}
+use Rattle.shared_store.specs.Transcript.{Beginning, RunFrom, Transcribes, TranscribesPart, all_replies, replies_text, transcript_text}
 use Rattle.shared_store.specs.declared.line.LineBuffer.{LineBuffer}
 use Rattle.shared_store.specs.declared.script.Status.{Status}
 use Rattle.shared_store.specs.declared.script.Status.TheVariants as ended
 use Rattle.shared_store.specs.declared.store.Store.{Store}
 use Rattle.shared_store.specs.declared.store.Store.TheVariants.{Closed}
-use Rattle.shared_store.proofs.Counting.{AreCounted-after, AreCounted-more, AreCounted-none}
-use Rattle.shared_store.proofs.Running.{Run-map, Run-more}
+use Rattle.shared_store.proofs.Counting.{AreCounted-after, AreCounted-none, AreCounted-then}
+use Rattle.shared_store.proofs.Running.{Run-chosen, Run-map, Run-more}
 
 -- a byte that is no line feed
 pub served_byte : (from : Beginning) (bytes : List ℕ) (b : ℕ) (line next : LineBuffer) (store : Store) (now : Devices) (sink : SinkState)
@@ -42,74 +44,96 @@ served_byte from bytes b line next store now sink ne holds s = record {
   counted = s.counted;
 }
 
+-- what is printed of one more line
+transcript_more : (taken : List ℕ) (replies : List (List Reply)) (said : List Reply) → (taken ++ transcript_text replies) ++ replies_text said ≡ taken ++ transcript_text (replies ++ said ∷ [])
+transcript_more taken replies said =
+    append_assoc taken (transcript_text replies) (replies_text said)
+    ∙ ap (λ xs. taken ++ xs) (sym (flat_map-append reply_text (all_replies replies) said) ∙ ap replies_text (flat_map_more (λ rs. rs) [] replies said))
+
 -- The line has ended, and is answered.
-module _ (from : Beginning) (bytes : List ℕ) (line next : LineBuffer) (was is : Store) (old now : Devices) (before sink : SinkState) (command : Command) (reply : Reply)
+module _ (from : Beginning) (bytes : List ℕ) (line next : LineBuffer) (was is : Store) (old now : Devices) (before sink : SinkState) (command : Command)
     (spoken : (l : List ℕ) → HoldsLine line l → is_silent l ≡ false)
     (means : (l : List ℕ) → HoldsLine line l → Means l command)
     (clear : HoldsLine next [])
-    (answers : (state : StoreState) → Shows was old.disk state → Answered old.disk.size old.vault.size state command reply (Shows is now.disk))
     (disk : GoesOn old.disk now.disk)
     (vault : GoesOn old.vault now.vault)
-    (cause : HasCause reply old now)
     (s : Served from bytes line was old before) where
-  answers_from : (state : StoreState) → Shows was old.disk state → Answered from.devices.disk.size from.devices.vault.size state command reply (Shows is now.disk)
-  answers_from state shows =
-      let P : ℕ → Type 0 = λ n. Answered n old.vault.size state command reply (Shows is now.disk) in
-      let Q : ℕ → Type 0 = λ n. Answered from.devices.disk.size n state command reply (Shows is now.disk) in
-      subst Q s.vault_size (subst P s.disk_size (answers state shows))
+  from_sizes : (state : StoreState) (said : List Reply) → Answered old.disk.size old.vault.size state command said (Shows is now.disk) → Answered from.devices.disk.size from.devices.vault.size state command said (Shows is now.disk)
+  from_sizes state said answered =
+      let P : ℕ → Type 0 = λ n. Answered n old.vault.size state command said (Shows is now.disk) in
+      let Q : ℕ → Type 0 = λ n. Answered from.devices.disk.size n state command said (Shows is now.disk) in
+      subst Q s.vault_size (subst P s.disk_size answered)
 
-  run : RunFrom from (answered (s.lines ++ s.rest ∷ [])) (s.replies ++ reply ∷ []) (Shows is now.disk)
-  run =
-      let R : List (List ℕ) → Type 0 = λ lines. RunFrom from lines (s.replies ++ reply ∷ []) (Shows is now.disk) in
-      subst R (sym (answered-spoken s.lines s.rest (spoken s.rest s.buffered)))
-      (Run-more from.devices.disk.size from.devices.vault.size from.state (answered s.lines) s.replies s.rest command reply (Shows was old.disk) (Shows is now.disk) (means s.rest s.buffered) answers_from s.run)
+  spoken_run : (said : List Reply) → RunFrom from (answered s.lines ++ s.rest ∷ []) (s.replies ++ said ∷ []) (Shows is now.disk) → RunFrom from (answered (s.lines ++ s.rest ∷ [])) (s.replies ++ said ∷ []) (Shows is now.disk)
+  spoken_run said run =
+      let R : List (List ℕ) → Type 0 = λ lines. RunFrom from lines (s.replies ++ said ∷ []) (Shows is now.disk) in
+      subst R (sym (answered-spoken s.lines s.rest (spoken s.rest s.buffered))) run
 
-  counted : AreCounted (s.replies ++ reply ∷ []) from.devices now
-  counted = AreCounted-more reply s.replies from.devices old now s.counted disk.grew vault.grew cause
+  counted_more : (said : List Reply) → AreCounted said old now → AreCounted (all_replies (s.replies ++ said ∷ [])) from.devices now
+  counted_more said counted =
+      subst (λ rs. AreCounted rs from.devices now) (flat_map_more (λ rs. rs) [] s.replies said)
+      (AreCounted-then (all_replies s.replies) said from.devices old now s.counted counted disk.grew vault.grew)
 
-  pub served_line : sink.taken ≡ before.taken ++ reply_text reply → Served from (bytes ++ 10 ∷ []) next is now sink
-  served_line taken = record {
-    lines = s.lines ++ s.rest ∷ [];
-    rest = [];
-    replies = s.replies ++ reply ∷ [];
-    splits = Splits-line bytes s.lines s.rest s.splits;
-    buffered = clear;
-    run = run;
-    disk_size = disk.size ∙ s.disk_size;
-    vault_size = vault.size ∙ s.vault_size;
-    printed = taken ∙ ap (λ xs. xs ++ reply_text reply) s.printed ∙ flat_map_more reply_text from.taken s.replies reply;
-    counted = counted;
-  }
+  -- the sink took its replies
+  module _ (sent : Sends command was is old now before.taken sink.taken) where
+    run : RunFrom from (answered (s.lines ++ s.rest ∷ [])) (s.replies ++ sent.replies ∷ []) (Shows is now.disk)
+    run =
+        spoken_run sent.replies
+        (Run-more from.devices.disk.size from.devices.vault.size from.state (answered s.lines) s.replies s.rest command sent.replies (Shows was old.disk) (Shows is now.disk) (means s.rest s.buffered)
+        (λ state shows. from_sizes state sent.replies (sent.answered state shows)) s.run)
 
-  -- the script ends with the line
-  pub served_end : sink.taken ≡ before.taken ++ reply_text reply → Transcribes true from bytes (Shows is now.disk) now sink.taken
-  served_end taken = record {
-    lines = s.lines;
-    rest = s.rest;
-    replies = s.replies ++ reply ∷ [];
-    splits = s.splits;
-    run = (let R : List (List ℕ) → Type 0 = λ lines. RunFrom from lines (s.replies ++ reply ∷ []) (Shows is now.disk) in subst R (sym (answered-with_rest s.lines s.rest)) run);
-    printed = taken ∙ ap (λ xs. xs ++ reply_text reply) s.printed ∙ flat_map_more reply_text from.taken s.replies reply;
-    counted = counted;
-  }
+    printed : sink.taken ≡ from.taken ++ transcript_text (s.replies ++ sent.replies ∷ [])
+    printed = sent.printed ∙ ap (λ xs. xs ++ replies_text sent.replies) s.printed ∙ transcript_more from.taken s.replies sent.replies
 
-  -- the sink failed within the reply, whatever stands behind the line
-  pub served_part : IsPart before.taken (reply_text reply) sink.taken → (more : List ℕ) → EndsLine more → TranscribesPart from (bytes ++ more) (Shows is now.disk) now sink.taken
-  served_part part more ends = record {
-    lines = s.lines;
-    line = s.rest;
-    rest = more;
-    replies = s.replies;
-    last = reply;
-    whole = ap (λ xs. xs ++ more) s.splits.whole;
-    each = s.splits.each;
-    no_feed = s.splits.partial;
-    ends = ends;
-    run = run;
-    length_taken = part.0;
-    printed = part.1 ∙ ap (λ xs. xs ++ take part.0 (reply_text reply)) s.printed;
-    counted = counted;
-  }
+    pub served_line : Served from (bytes ++ 10 ∷ []) next is now sink
+    served_line = record {
+      lines = s.lines ++ s.rest ∷ [];
+      rest = [];
+      replies = s.replies ++ sent.replies ∷ [];
+      splits = Splits-line bytes s.lines s.rest s.splits;
+      buffered = clear;
+      run = run;
+      disk_size = disk.size ∙ s.disk_size;
+      vault_size = vault.size ∙ s.vault_size;
+      printed = printed;
+      counted = counted_more sent.replies sent.counted;
+    }
+
+    -- the script ends with the line
+    pub served_end : Transcribes true from bytes (Shows is now.disk) now sink.taken
+    served_end = record {
+      lines = s.lines;
+      rest = s.rest;
+      replies = s.replies ++ sent.replies ∷ [];
+      splits = s.splits;
+      run = (let R : List (List ℕ) → Type 0 = λ lines. RunFrom from lines (s.replies ++ sent.replies ∷ []) (Shows is now.disk) in subst R (sym (answered-with_rest s.lines s.rest)) run);
+      printed = printed;
+      counted = counted_more sent.replies sent.counted;
+    }
+
+  -- the sink failed within them, whatever stands behind the line
+  pub served_part : ((state : StoreState) → Shows was old.disk state → SendsPart state command is old now before.taken sink.taken) → (more : List ℕ) → EndsLine more → TranscribesPart from (bytes ++ more) (Shows is now.disk) now sink.taken
+  served_part sent more ends =
+      let P : List Reply → Type 0 = λ said. IsPart before.taken (replies_text said) sink.taken × AreCounted said old now in
+      let chosen = Run-chosen from.devices.disk.size from.devices.vault.size from.state (answered s.lines) s.replies s.rest command (Shows was old.disk) (Shows is now.disk) P (means s.rest s.buffered)
+      (λ state shows. let part = sent state shows in (part.replies, from_sizes state part.replies part.answered, (part.part, part.counted))) s.run in
+      let last : List Reply = chosen.0 in
+      let part : IsPart before.taken (replies_text last) sink.taken = chosen.2.0 in
+      record {
+        lines = s.lines;
+        line = s.rest;
+        rest = more;
+        replies = s.replies;
+        last = last;
+        whole = ap (λ xs. xs ++ more) s.splits.whole;
+        each = s.splits.each;
+        no_feed = s.splits.partial;
+        ends = ends;
+        run = spoken_run last chosen.1;
+        length_taken = part.0;
+        printed = part.1 ∙ ap (λ xs. xs ++ take part.0 (replies_text last)) s.printed;
+        counted = counted_more last chosen.2.1;
+      }
 
 -- the line has ended, and gets no reply
 pub served_silent : (from : Beginning) (bytes : List ℕ) (line next : LineBuffer) (store : Store) (now : Devices) (sink : SinkState)
@@ -177,7 +201,7 @@ module _ (from : Beginning) (S T : StoreState → Type 0) (old now : Devices)
     (closes : (state : StoreState) → S state → T state)
     (disk : GoesOn old.disk now.disk)
     (vault : GoesOn old.vault now.vault) where
-  closed_run : (lines : List (List ℕ)) (replies : List Reply) → RunFrom from lines replies S → RunFrom from lines replies T
+  closed_run : (lines : List (List ℕ)) (replies : List (List Reply)) → RunFrom from lines replies S → RunFrom from lines replies T
   closed_run lines replies = Run-map from.devices.disk.size from.devices.vault.size from.state lines replies S T closes
 
   closed_whole : (at_end : Bool) (bytes taken : List ℕ) → Transcribes at_end from bytes S old taken → Transcribes at_end from bytes T now taken
@@ -188,7 +212,7 @@ module _ (from : Beginning) (S T : StoreState → Type 0) (old now : Devices)
     splits = t.splits;
     run = closed_run (answered (lines_read at_end t.lines t.rest)) t.replies t.run;
     printed = t.printed;
-    counted = AreCounted-after t.replies from.devices old now t.counted disk.grew vault.grew;
+    counted = AreCounted-after (all_replies t.replies) from.devices old now t.counted disk.grew vault.grew;
   }
 
   closed_part : (bytes taken : List ℕ) → TranscribesPart from bytes S old taken → TranscribesPart from bytes T now taken
@@ -205,7 +229,7 @@ module _ (from : Beginning) (S T : StoreState → Type 0) (old now : Devices)
     run = closed_run (answered (t.lines ++ t.line ∷ [])) (t.replies ++ t.last ∷ []) t.run;
     length_taken = t.length_taken;
     printed = t.printed;
-    counted = AreCounted-after (t.replies ++ t.last ∷ []) from.devices old now t.counted disk.grew vault.grew;
+    counted = AreCounted-after (all_replies (t.replies ++ t.last ∷ [])) from.devices old now t.counted disk.grew vault.grew;
   }
 
   closed_tells : (status : Status) (bytes : List ℕ) (sink : SinkState) → Tells status from bytes S old sink → Tells status from bytes T now sink

@@ -19,7 +19,7 @@ status_number ended.TooLong = 6
 abbrev pub beginning : Seal → Devices → SinkState → Beginning
 beginning seal devices sink = record { state = shut seal; devices = devices; taken = sink.taken }
 
--- of the bytes that were read, the transcript was written whole, or up to within a reply where the sink failed
+-- of the bytes that were read, the transcript was written whole, or up to within the replies to a line where the sink failed
 abbrev pub Tells : Status → Beginning → List ℕ → (StoreState → Type 0) → Devices → SinkState → Type 0
 Tells ended.Done from bytes S now sink = Transcribes true from bytes S now sink.taken
 Tells ended.Usage from bytes S now sink = ⊤

@@ -5,5 +5,7 @@ pub mod Causes
 pub mod StoreState
 pub mod Store
 pub mod Transcript
+pub mod Answering
 pub mod Serving
 pub mod Job
+pub mod Statement

@@ -7,7 +7,7 @@ use Rattle.shared_store.specs.Causes.{AreCounted}
 use Rattle.shared_store.specs.Devices.{Devices}
 use Rattle.shared_store.specs.LineBuffer.{HoldsLine}
 use Rattle.shared_store.specs.Store.{Shows}
-use Rattle.shared_store.specs.Transcript.{Beginning, RunFrom, transcript_text}
+use Rattle.shared_store.specs.Transcript.{Beginning, RunFrom, all_replies, transcript_text}
 use Rattle.shared_store.specs.declared.line.LineBuffer.{LineBuffer}
 use Rattle.shared_store.specs.declared.store.Store.{Store}
 
@@ -16,11 +16,11 @@ use Rattle.shared_store.specs.declared.store.Store.{Store}
 pub record Served (from : Beginning) (bytes : List ℕ) (line : LineBuffer) (store : Store) (now : Devices) (sink : SinkState) : Type 0 where
   pub lines : List (List ℕ)
   pub rest : List ℕ
-  pub replies : List Reply
+  pub replies : List (List Reply)
   pub splits : Splits bytes lines rest
   pub buffered : HoldsLine line rest
   pub run : RunFrom from (answered lines) replies (Shows store now.disk)
   pub disk_size : now.disk.size ≡ from.devices.disk.size
   pub vault_size : now.vault.size ≡ from.devices.vault.size
   pub printed : sink.taken ≡ from.taken ++ transcript_text replies
-  pub counted : AreCounted replies from.devices now
+  pub counted : AreCounted (all_replies replies) from.devices now

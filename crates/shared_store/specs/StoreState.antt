@@ -1,5 +1,6 @@
 -- What the store is to its user, and what each line may be answered.
-use Rattle.std.specs.Prelude.{◌≡◌, ◌≢◌, ◌≤◌, ◌<◌, ⊤, ℕ, Bool, true, false, List, [], ◌∷◌}
+use Rattle.std.specs.Prelude.{◌≡◌, ◌≢◌, ◌⊎◌, ◌≤◌, ◌<◌, ◌++◌, ⊤, ℕ, Bool, true, false, List, [], ◌∷◌, Option, Some, None, map}
+use Rattle.sd_base.specs.declared.device.NodeId.{NodeId}
 use Rattle.sd_base.specs.Shape.{disk_need}
 use Rattle.sd_base.specs.declared.shape.Shape.{Shape}
 use Rattle.script_text.specs.Command.{Means}
@@ -9,6 +10,7 @@ use Rattle.script_text.specs.declared.reply.Reply.{Reply}
 use Rattle.script_text.specs.declared.reply.Reply.TheVariants as says
 use Rattle.record_machine.specs.Commands.{Step}
 use Rattle.record_machine.specs.Machine.{Machine, formatted}
+use Rattle.record_machine.specs.Rows.{AreRows, DumpStep, Row, dumped_by, row_reply}
 use Rattle.cluster_core.specs.Places.{vault_need}
 use Rattle.cluster_core.specs.Ports.{says_stop}
 
@@ -51,7 +53,7 @@ after_format seal s (says.Stopped n) = shut (after_cut seal)
 after_format seal s (says.Fault n) = shut (after_cut seal)
 after_format seal s reply = shut Blank
 
--- what a command may be answered. A line of a form that the store doesn't know yet is bad
+-- what a command may be answered that gets one reply, as each but a dump does
 abbrev pub AnswersShut : ℕ → ℕ → Seal → Command → Reply → Type 0
 AnswersShut disk vault seal (asks.Format s) reply = AnswersFormat disk vault seal s reply
 AnswersShut disk vault seal (asks.Start n) reply = reply ≡ says.Closed
@@ -63,8 +65,9 @@ AnswersShut disk vault seal (asks.Del t key) reply = reply ≡ says.Closed
 AnswersShut disk vault seal (asks.Commit t) reply = reply ≡ says.Closed
 AnswersShut disk vault seal (asks.Abort t) reply = reply ≡ says.Closed
 AnswersShut disk vault seal (asks.Flush n) reply = reply ≡ says.Closed
+AnswersShut disk vault seal (asks.Dump n) reply = ⊥
 AnswersShut disk vault seal (asks.Stat n) reply = reply ≡ says.Closed
-AnswersShut disk vault seal command reply = reply ≡ says.Bad
+AnswersShut disk vault seal asks.Bad reply = reply ≡ says.Bad
 
 -- and the state after it
 abbrev pub after_shut : Seal → Command → Reply → StoreState
@@ -91,7 +94,8 @@ abbrev pub AnswersOpen : Bool → Machine → Command → Reply → (StoreState 
 AnswersOpen true m command reply S = MayStop command × S stopped
 AnswersOpen false m command reply S = Step m command reply (λ next. S (opened next))
 
--- once the node has stopped, the lines that ask it for nothing are answered as before, and nothing is said of the others
+-- once the node has stopped, the commands that get one reply and ask it for nothing are answered as before, and nothing is
+-- said of the others
 abbrev pub AnswersStopped : Command → Reply → Type 0
 AnswersStopped (asks.Format s) reply = reply ≡ says.Formatted
 AnswersStopped (asks.Start n) reply = ⊤
@@ -103,21 +107,49 @@ AnswersStopped (asks.Del t key) reply = ⊤
 AnswersStopped (asks.Commit t) reply = ⊤
 AnswersStopped (asks.Abort t) reply = ⊤
 AnswersStopped (asks.Flush n) reply = ⊤
+AnswersStopped (asks.Dump n) reply = ⊥
 AnswersStopped (asks.Stat n) reply = ⊤
-AnswersStopped command reply = reply ≡ says.Bad
+AnswersStopped asks.Bad reply = reply ≡ says.Bad
+
+-- ---- a line
+
+-- from this state a command that gets one reply may be answered so, and the store go on to a state of S
+abbrev pub AnsweredOnce : ℕ → ℕ → StoreState → Command → Reply → (StoreState → Type 0) → Type 0
+AnsweredOnce disk vault (shut seal) command reply S = AnswersShut disk vault seal command reply × S (after_shut seal command reply)
+AnsweredOnce disk vault (opened m) command reply S = AnswersOpen (says_stop reply) m command reply S
+AnsweredOnce disk vault stopped command reply S = AnswersStopped command reply × S stopped
+
+-- In a dump the node stopped, behind some of the rows.
+pub record StopsDump (m : Machine) (replies : List Reply) : Type 0 where
+  pub end : ℕ
+  pub rows : List Row
+  pub are : AreRows m end rows
+  pub last : Reply
+  pub stops : says_stop last ≡ true
+  pub said : replies ≡ map row_reply rows ++ last ∷ []
+
+-- From this state a dump may be answered with these replies, and the store go on to a state of S: where the node didn't
+-- stop, with what the machine answers. Once it has stopped nothing is said of them.
+abbrev pub AnswersDump : StoreState → NodeId → List Reply → (StoreState → Type 0) → Type 0
+AnswersDump (shut seal) n replies S = (replies ≡ says.Closed ∷ []) × S (shut seal)
+AnswersDump (opened m) n replies S = DumpStep m n replies (λ next. S (opened next)) ⊎ (StopsDump m replies × S stopped)
+AnswersDump stopped n replies S = S stopped
+
+-- from this state the command may be answered with these replies, and the store go on to a state of S
+abbrev pub Answered : ℕ → ℕ → StoreState → Command → List Reply → (StoreState → Type 0) → Type 0
+Answered disk vault state command replies S = by (dumped_by command)
+  where
+    by : Option NodeId → Type 0
+    by None = (reply : Reply) × (replies ≡ reply ∷ []) × AnsweredOnce disk vault state command reply S
+    by (Some n) = AnswersDump state n replies S
 
 -- ---- a run
 
--- from this state the command may be answered so, and the store go on to a state of S
-abbrev pub Answered : ℕ → ℕ → StoreState → Command → Reply → (StoreState → Type 0) → Type 0
-Answered disk vault (shut seal) command reply S = AnswersShut disk vault seal command reply × S (after_shut seal command reply)
-Answered disk vault (opened m) command reply S = AnswersOpen (says_stop reply) m command reply S
-Answered disk vault stopped command reply S = AnswersStopped command reply × S stopped
-
--- from this state the lines may be answered with these replies, one after another, and the store end in a state of S
-abbrev pub Run : ℕ → ℕ → StoreState → List (List ℕ) → List Reply → (StoreState → Type 0) → Type 0
+-- From this state the lines may be answered with these replies, a list of them for each line, one line after another, and
+-- the store end in a state of S.
+abbrev pub Run : ℕ → ℕ → StoreState → List (List ℕ) → List (List Reply) → (StoreState → Type 0) → Type 0
 Run disk vault state [] [] S = S state
-Run disk vault state (line ∷ lines) (reply ∷ replies) S =
-    (command : Command) × Means line command × Answered disk vault state command reply (λ next. Run disk vault next lines replies S)
-Run disk vault state [] (reply ∷ replies) S = ⊥
+Run disk vault state (line ∷ lines) (said ∷ replies) S =
+    (command : Command) × Means line command × Answered disk vault state command said (λ next. Run disk vault next lines replies S)
+Run disk vault state [] (said ∷ replies) S = ⊥
 Run disk vault state (line ∷ lines) [] S = ⊥

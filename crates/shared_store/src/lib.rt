@@ -9,6 +9,7 @@
 //! rules of lines, commands and replies are in docs/COMMANDS.md.
 #![tactic(auto)]
 
+mod answer;
 mod line;
 mod output;
 mod script;

@@ -5,6 +5,7 @@ ghost use Rattle.shared_store.specs.Devices.{GoesOn, OpensNoPort, both};
 ghost use Rattle.shared_store.specs.Job.{IsBounded, TellsJob, beginning, status_number};
 ghost use Rattle.shared_store.specs.Output.{StaysFlushed};
 ghost use Rattle.shared_store.specs.Serving.{Served};
+ghost use Rattle.shared_store.specs.Statement.{TellsRun};
 ghost use Rattle.shared_store.specs.Store.{CanServe, IsQuiet, KeepsPorts, Leaves, Shows, ShowsSeal};
 ghost use Rattle.shared_store.specs.StoreState.{Seal};
 ghost use Rattle.shared_store.specs.Transcript.{Beginning};
@@ -80,7 +81,7 @@ pub fn run<S: Source, K: Sink, D: Disk, V: Disk>(
     ensures done { result ≡ Status.Done → IsTrue S.told → (S.state source.new).left ≡ [] }
     ensures flushed { result ≡ Status.Done → IsTrue K.told → StaysFlushed (K.state sink.old) (K.state sink.new) }
     ensures transcript { IsTrue S.told → IsTrue K.told → IsTrue D.told → (seal : Seal) → ShowsSeal (D.state disk.old) seal
-        → TellsJob result (beginning seal (both (D.state disk.old) (V.state vault.old)) (K.state sink.old)) (S.state source.old) (S.state source.new) (Leaves (D.state disk.new)) (both (D.state disk.new) (V.state vault.new)) (K.state sink.new) }
+        → TellsRun result (beginning seal (both (D.state disk.old) (V.state vault.old)) (K.state sink.old)) (S.state source.old) (S.state source.new) (Leaves (D.state disk.new)) (both (D.state disk.new) (V.state vault.new)) (K.state sink.new) }
 {
     if words.len() != 1 {
         return Status::Usage;

@@ -8,9 +8,7 @@ ghost use Rattle.shared_store.specs.Store.{CanServe, IsQuiet, KeepsPorts, Shows}
 ghost use Rattle.shared_store.specs.Transcript.{Beginning, Transcribes, TranscribesPart};
 
 use crate::line::LineBuffer;
-use crate::output::send;
 use crate::store::Store;
-use script_text::{ReplyText, write_reply};
 use sd_base::{Disk, Sink};
 use std::alloc::Global;
 
@@ -93,7 +91,7 @@ impl Session {
     }
 
     /// Answers the line that is held, whether a line feed or the end of the script stands behind it.
-    /// The reply is written and flushed before the next line is read.
+    /// Its replies are written and flushed before the next line is read.
     pub(crate) fn answer_line<K: Sink, D: Disk, V: Disk>(
         &mut self,
         alloc: Global,
@@ -128,9 +126,6 @@ impl Session {
         }
         let command = self.line.command();
         self.line.clear();
-        let reply = self.store.exec(alloc, disk, vault, &command);
-        let mut text = ReplyText::new();
-        write_reply(&reply, &mut text);
-        send(sink, text.as_slice())
+        self.store.answer(alloc, sink, disk, vault, &command)
     }
 }

@@ -1,15 +1,17 @@
-ghost use Rattle.std.specs.Prelude.{◌≡◌, ◌≢◌, IsTrue};
+ghost use Rattle.std.specs.Prelude.{◌≡◌, ◌≢◌, None, IsTrue};
 ghost use Rattle.sd_base.specs.Disk.{DiskState};
 ghost use Rattle.sd_base.specs.Shape.{IsShape};
 ghost use Rattle.script_text.specs.Command.{InRange};
+ghost use Rattle.record_machine.specs.Rows.{dumped_by, next_key};
+ghost use Rattle.shared_store.specs.Answering.{IsRowFrom, NextAnswered};
 ghost use Rattle.shared_store.specs.Causes.{HasCause};
 ghost use Rattle.shared_store.specs.Devices.{GoesOn, OpensNoPort, both};
 ghost use Rattle.shared_store.specs.Store.{CanServe, IsAnsweredAlone, IsQuiet, KeepsPorts, Leaves, Shows, ShowsSeal};
-ghost use Rattle.shared_store.specs.StoreState.{Answered, Seal, StoreState, shut};
+ghost use Rattle.shared_store.specs.StoreState.{AnsweredOnce, Seal, StoreState, shut};
 
 use cluster_core::Cluster;
 use script_text::{Command, Reply};
-use sd_base::{Disk, Shape};
+use sd_base::{Disk, Key, NodeId, Shape};
 use std::alloc::Global;
 use std::mem;
 
@@ -24,7 +26,8 @@ pub(crate) enum Store {
 }
 
 impl Store {
-    /// Executes a command. A `format` that is done opens the store.
+    /// Executes a command that gets one reply: `next_record` answers a dump. A `format` that is done
+    /// opens the store.
     pub(crate) fn exec<D: Disk, V: Disk>(
         &mut self,
         alloc: Global,
@@ -33,6 +36,7 @@ impl Store {
         command: &Command,
     ) -> Reply
         requires range { InRange command.now }
+        requires one { dumped_by command.now ≡ None }
         requires ready { CanServe self.old (D.state disk.old) (V.state vault.old) }
         requires quiet { IsTrue D.told → IsQuiet self.old (D.state disk.old).block }
         ensures ready { CanServe self.new (D.state disk.new) (V.state vault.new) }
@@ -45,7 +49,7 @@ impl Store {
         ensures ports { (first : DiskState) → KeepsPorts self.old first (D.state disk.old) → KeepsPorts self.new first (D.state disk.new) }
         ensures vault_ports { (first : DiskState) → KeepsPorts self.old first (V.state vault.old) → KeepsPorts self.new first (V.state vault.new) }
         ensures answered { IsTrue D.told → (state : StoreState) → Shows self.old (D.state disk.old) state
-            → Answered (D.state disk.old).size (V.state vault.old).size state command.now result (Shows self.new (D.state disk.new)) }
+            → AnsweredOnce (D.state disk.old).size (V.state vault.old).size state command.now result (Shows self.new (D.state disk.new)) }
     {
         match self {
             Store::Open(cluster) => cluster.exec(disk, vault, command),
@@ -53,8 +57,37 @@ impl Store {
         }
     }
 
-    /// Executes a command while no store is open. A form that the store doesn't know yet is bad, as
-    /// with a store.
+    /// Answers a dump, one record at a time: the record with the least key behind this one, or the least
+    /// of all.
+    pub(crate) fn next_record<D: Disk, V: Disk>(
+        &mut self,
+        disk: &mut D,
+        vault: &mut V,
+        n: NodeId,
+        after: Option<Key>,
+    ) -> Reply
+        requires range { InRange (Command.Dump n) }
+        requires ready { CanServe self.old (D.state disk.old) (V.state vault.old) }
+        requires quiet { IsTrue D.told → IsQuiet self.old (D.state disk.old).block }
+        ensures ready { CanServe self.new (D.state disk.new) (V.state vault.new) }
+        ensures quiet { IsTrue D.told → IsQuiet self.new (D.state disk.new).block }
+        ensures disk { GoesOn (D.state disk.old) (D.state disk.new) }
+        ensures vault { GoesOn (V.state vault.old) (V.state vault.new) }
+        ensures cause { HasCause result (both (D.state disk.old) (V.state vault.old)) (both (D.state disk.new) (V.state vault.new)) }
+        ensures untouched { IsAnsweredAlone self.old (Command.Dump n) → (disk.new ≡ disk.old) × (vault.new ≡ vault.old) }
+        ensures ports { (first : DiskState) → KeepsPorts self.old first (D.state disk.old) → KeepsPorts self.new first (D.state disk.new) }
+        ensures vault_ports { (first : DiskState) → KeepsPorts self.old first (V.state vault.old) → KeepsPorts self.new first (V.state vault.new) }
+        ensures rising { IsRowFrom (next_key after) result }
+        ensures answered { IsTrue D.told → (state : StoreState) → Shows self.old (D.state disk.old) state
+            → NextAnswered state n (next_key after) result (Shows self.new (D.state disk.new)) }
+    {
+        match self {
+            Store::Open(cluster) => cluster.next_record(disk, vault, n, after),
+            Store::Closed => Reply::Closed,
+        }
+    }
+
+    /// Executes a command while no store is open.
     fn exec_closed<D: Disk, V: Disk>(
         &mut self,
         alloc: Global,
@@ -63,6 +96,7 @@ impl Store {
         command: &Command,
     ) -> Reply
         requires range { InRange command.now }
+        requires one { dumped_by command.now ≡ None }
         requires closed { self.old ≡ Store.Closed }
         ensures ready { CanServe self.new (D.state disk.new) (V.state vault.new) }
         ensures quiet { IsTrue D.told → IsQuiet self.new (D.state disk.new).block }
@@ -74,7 +108,7 @@ impl Store {
         ensures ports { KeepsPorts self.new (D.state disk.old) (D.state disk.new) }
         ensures vault_ports { KeepsPorts self.new (V.state vault.old) (V.state vault.new) }
         ensures answered { IsTrue D.told → (seal : Seal) → ShowsSeal (D.state disk.old) seal
-            → Answered (D.state disk.old).size (V.state vault.old).size (shut seal) command.now result (Shows self.new (D.state disk.new)) }
+            → AnsweredOnce (D.state disk.old).size (V.state vault.old).size (shut seal) command.now result (Shows self.new (D.state disk.new)) }
     {
         match *command {
             Command::Format(shape) => self.format(alloc, disk, vault, shape),
@@ -88,7 +122,8 @@ impl Store {
             | Command::Abort(_)
             | Command::Flush(_)
             | Command::Stat(_) => Reply::Closed,
-            Command::Bad | Command::Dump(_) => Reply::Bad,
+            Command::Bad => Reply::Bad,
+            Command::Dump(_) => unreachable!(),
         }
     }
 
@@ -112,7 +147,7 @@ impl Store {
         ensures ports { KeepsPorts self.new (D.state disk.old) (D.state disk.new) }
         ensures vault_ports { KeepsPorts self.new (V.state vault.old) (V.state vault.new) }
         ensures answered { IsTrue D.told → (seal : Seal) → ShowsSeal (D.state disk.old) seal
-            → Answered (D.state disk.old).size (V.state vault.old).size (shut seal) (Command.Format shape) result (Shows self.new (D.state disk.new)) }
+            → AnsweredOnce (D.state disk.old).size (V.state vault.old).size (shut seal) (Command.Format shape) result (Shows self.new (D.state disk.new)) }
     {
         match Cluster::format(alloc, disk, vault, shape) {
             Ok(cluster) => {

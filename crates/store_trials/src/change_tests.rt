@@ -97,10 +97,6 @@ fn what_an_abort_takes_back(rt: HostRuntime) -> Result<(), Fail> {
     for (script, transcript) in [
         // All that it has written, and nothing else: each record is as it was before the transaction.
         (
-            "put 1.0 5 a\ncommit 1.0\nbegin 1.0\nappend 1.0 5 b\nput 1.0 5 c\nabort 1.0\nstat 1\nbegin 1.0\nget 1.0 5\n",
-            "ok\nok\nok\nok\nok\nok\nstat up 10 0 38\nok\nvalue a\n",
-        ),
-        (
             "put 1.0 5 a\nput 1.0 6 b\nput 1.0 21 c\ncommit 1.0\nbegin 1.0\ndel 1.0 5\nput 1.0 5 d\nappend 1.0 6 e\ndel 1.0 21\nput 1.0 37 f\nabort 1.0\nbegin 1.0\nget 1.0 5\nget 1.0 6\nget 1.0 21\nget 1.0 37\n",
             "ok\nok\nok\nok\nok\nok\nok\nok\nok\nok\nok\nok\nvalue a\nvalue b\nvalue c\nabsent\n",
         ),

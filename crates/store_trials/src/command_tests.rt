@@ -1,28 +1,12 @@
-use crate::trial::{expect, expect_anew, repeated};
+use crate::trial::{expect, expect_anew};
 use crate::{Faults, FaultyDisk};
 use disk_model::MemDisk;
 use page_image::write_birth;
-use sd_base::{Block, BlockNo, PageNo, Shape, write_super};
-use std::alloc::{AllocError, Global};
+use sd_base::{Block, BlockNo, PageNo};
 use std::test::Fail;
 
 // A store of one node that is up.
 const STARTED: &str = "format 1 8 1 8 0\nstart 1\n";
-
-#[test]
-fn the_stored_run(rt: HostRuntime) -> Result<(), Fail> {
-    expect_anew(
-        &rt,
-        "format 1 8 1 8 0\nstart 1\nbegin 1.0\nput 1.0 5 hello\ncommit 1.0\nbegin 1.0\nget 1.0 5\n",
-        "ok\nok\nok\nok\nok\nok\nvalue hello\n",
-    )
-}
-
-#[test]
-fn a_record_that_another_transaction_reads_is_locked(rt: HostRuntime) -> Result<(), Fail> {
-    let script = format!(in rt.alloc(); "{STARTED}begin 1.0\nget 1.0 7\nbegin 1.1\nput 1.1 7 a\n")?;
-    expect_anew(&rt, script.as_str(), "ok\nok\nok\nabsent\nok\nlocked 1.0\n")
-}
 
 #[test]
 fn what_a_transaction_sees(rt: HostRuntime) -> Result<(), Fail> {
@@ -52,77 +36,17 @@ fn what_a_transaction_sees(rt: HostRuntime) -> Result<(), Fail> {
     Ok(())
 }
 
-// Lines of one form, whose keys rise by so many from 0 on.
-fn lines(
-    alloc: Global,
-    form: &str,
-    step: u32,
-    count: u32,
-    value: &str,
-) -> Result<String, AllocError> {
-    let mut all = String::new(alloc);
-    for i in 0..count {
-        let line = format!(in alloc; "{form} {}{value}\n", step.saturating_mul(i))?;
-        all.push_str(line.as_str())?;
-    }
-    Ok(all)
-}
-
-#[test]
-fn a_map_page_without_a_free_place(rt: HostRuntime) -> Result<(), Fail> {
-    let alloc = rt.alloc();
-    let puts = lines(alloc, "put 1.0", 16, 252, " v")?;
-    let script = format!(in alloc;
-        "format 1 256 1 8 0\nstart 1\nbegin 1.0\n{puts}put 1.0 4032 v\n"
-    )?;
-    let done = repeated(alloc, "ok\n", 255)?;
-    let transcript = format!(in alloc; "{done}nospace 0\n")?;
-    expect_anew(&rt, script.as_str(), transcript.as_str())
-}
-
-#[test]
-fn a_map_page_at_its_limit(rt: HostRuntime) -> Result<(), Fail> {
-    expect_anew(
-        &rt,
-        "format 1 8 1 8 9223372036854775808\nstart 1\nbegin 1.0\nput 1.0 5 a\n",
-        "ok\nok\nok\nlimit 0\n",
-    )
-}
-
-#[test]
-fn more_locks_than_there_are(rt: HostRuntime) -> Result<(), Fail> {
-    let alloc = rt.alloc();
-    let gets = lines(alloc, "get 1.0", 1, 4097, "")?;
-    let script = format!(in alloc; "{STARTED}begin 1.0\n{gets}")?;
-    let absent = repeated(alloc, "absent\n", 4096)?;
-    let transcript = format!(in alloc; "ok\nok\nok\n{absent}locksfull\n")?;
-    expect_anew(&rt, script.as_str(), transcript.as_str())
-}
-
-#[test]
-fn a_log_without_room(rt: HostRuntime) -> Result<(), Fail> {
-    // 24 records: a begin and its end, a use of a place, and ten updates with what takes them back.
-    let alloc = rt.alloc();
-    let puts = lines(alloc, "put 1.0", 1, 11, " v")?;
-    let script = format!(in alloc;
-        "format 1 4 1 8 0\nstart 1\nbegin 1.0\n{puts}begin 1.1\ncommit 1.0\nbegin 1.1\n"
-    )?;
-    let done = repeated(alloc, "ok\n", 13)?;
-    let transcript = format!(in alloc; "{done}logfull 2 1\nlogfull 2 1\nok\nok\n")?;
-    expect_anew(&rt, script.as_str(), transcript.as_str())
-}
-
 #[test]
 fn what_is_refused(rt: HostRuntime) -> Result<(), Fail> {
     for (script, transcript) in [
-        // No store is open. A form that the store doesn't know yet is bad all the same.
+        // No store is open.
         (
             "start 1\nbegin 1.0\nget 1.0 5\nput 1.0 5 a\ncommit 1.0\n",
             "closed\nclosed\nclosed\nclosed\nclosed\n",
         ),
         (
             "append 1.0 5 a\ndel 1.0 5\nabort 1.0\nflush 1\nstat 1\ndump 1\n",
-            "closed\nclosed\nclosed\nclosed\nclosed\nbad\n",
+            "closed\nclosed\nclosed\nclosed\nclosed\nclosed\n",
         ),
         // A store is open.
         (
@@ -161,83 +85,8 @@ fn what_is_refused(rt: HostRuntime) -> Result<(), Fail> {
             "format 1 8 1 8 0\nstart 1\nbegin 1.0\nget 1.0 5\nbegin 1.1\nappend 1.1 5 a\ndel 1.1 5\n",
             "ok\nok\nok\nabsent\nok\nlocked 1.0\nlocked 1.0\n",
         ),
-        (
-            "format 1 8 1 8 0\nstart 1\nbegin 1.0\ndump 1\nget 1.0 5\n",
-            "ok\nok\nok\nbad\nabsent\n",
-        ),
     ] {
         expect_anew(&rt, script, transcript)?;
-    }
-    Ok(())
-}
-
-#[test]
-fn devices_that_are_too_small(rt: HostRuntime) -> Result<(), Fail> {
-    for (disk_blocks, vault_blocks, format, reply) in [
-        (0, 0, "format 1 8 1 8 0\n", "small disk 263 0\n"),
-        (10, 263, "format 1 8 1 8 0\n", "small disk 263 10\n"),
-        (262, 262, "format 1 8 1 8 0\n", "small disk 263 262\n"),
-        (263, 262, "format 1 8 1 8 0\n", "small vault 263 262\n"),
-        (263, 0, "format 1 8 1 8 0\n", "small vault 263 0\n"),
-        (263, 263, "format 1 8 1 8 0\n", "ok\n"),
-        // 1 + (1 + 9) + 253 * 2 blocks, and 1 + 1 + 7 + 253 * 2.
-        (516, 515, "format 1 9 2 7 1\n", "small disk 517 516\n"),
-        (517, 514, "format 1 9 2 7 1\n", "small vault 515 514\n"),
-        (517, 515, "format 1 9 2 7 1\n", "ok\n"),
-    ] {
-        let mut disk = MemDisk::new(rt.alloc(), disk_blocks)?;
-        let mut vault = MemDisk::new(rt.alloc(), vault_blocks)?;
-        expect(&rt, &mut disk, &mut vault, format, reply)?;
-    }
-    Ok(())
-}
-
-#[test]
-fn a_store_that_an_earlier_run_has_left(rt: HostRuntime) -> Result<(), Fail> {
-    // No command opens it yet.
-    let mut disk = MemDisk::new(rt.alloc(), 263)?;
-    let mut vault = MemDisk::new(rt.alloc(), 263)?;
-    let script = format!(in rt.alloc(); "{STARTED}begin 1.0\nput 1.0 5 a\ncommit 1.0\n")?;
-    expect(
-        &rt,
-        &mut disk,
-        &mut vault,
-        script.as_str(),
-        "ok\nok\nok\nok\nok\n",
-    )?;
-    for _ in 0..2 {
-        let script = "format 1 8 1 8 0\nget 1.0 5\nformat 1 8 1 8 0\n";
-        let transcript = "formatted\nclosed\nformatted\n";
-        expect(&rt, &mut disk, &mut vault, script, transcript)?;
-    }
-    Ok(())
-}
-
-#[test]
-fn a_super_that_stands_on_the_disk(rt: HostRuntime) -> Result<(), Fail> {
-    // One of other numbers is one too, also on a disk that is too small; a lost block 0 is none.
-    let shape = Shape {
-        nodes: 2,
-        ring: 8,
-        maps: 1,
-        keep: 8,
-        birth: 0,
-    };
-    let mut block = [0; 4096];
-    write_super(&shape, false, &mut block);
-    for (content, size, reply) in [
-        (Some(block), 263, "formatted\n"),
-        (Some(block), 10, "formatted\n"),
-        (None, 263, "ok\n"),
-        (None, 10, "small disk 263 10\n"),
-    ] {
-        let wrong = Faults {
-            replaced: Some((BlockNo(0), content)),
-            ..Faults::NONE
-        };
-        let mut disk = FaultyDisk::new(rt.alloc(), size, wrong)?;
-        let mut vault = MemDisk::new(rt.alloc(), 263)?;
-        expect(&rt, &mut disk, &mut vault, "format 1 8 1 8 0\n", reply)?;
     }
     Ok(())
 }

@@ -60,6 +60,13 @@ impl FaultyDisk {
         })
     }
 
+    /// How many reads, writes and barriers there were.
+    pub fn calls(&self) -> u64
+        ensures { result ≡ self.now.calls }
+    {
+        self.calls
+    }
+
     /// Counts a call, and stops the port or lets it fail where its turn has come.
     fn answer(&mut self, n: NodeId) -> WriteAnswer
         requires port { IsPort n.0 }

@@ -28,6 +28,8 @@ mod log_tests;
 #[cfg(test)]
 mod page_tests;
 #[cfg(test)]
+mod row_tests;
+#[cfg(test)]
 mod tests;
 #[cfg(test)]
 mod trial;

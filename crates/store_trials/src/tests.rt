@@ -68,19 +68,6 @@ fn lines_and_values(rt: HostRuntime) -> Result<(), Fail> {
 }
 
 #[test]
-fn the_first_and_the_last_line(rt: HostRuntime) -> Result<(), Fail> {
-    for (script, transcript) in [
-        ("", ""),
-        ("# note\n\nPUT 1.0 5 x\nformat 1 8 1 8 0", "bad\nok\n"),
-    ] {
-        let mut disk = MemDisk::new(rt.alloc(), 263)?;
-        let mut vault = MemDisk::new(rt.alloc(), 263)?;
-        expect(&rt, &mut disk, &mut vault, script, transcript)?;
-    }
-    Ok(())
-}
-
-#[test]
 fn lines_that_are_bad(rt: HostRuntime) -> Result<(), Fail> {
     for line in [
         "put 1.0 5 \\x41",

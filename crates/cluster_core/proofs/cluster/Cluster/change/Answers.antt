@@ -1,3 +1,4 @@
+use Rattle.cluster_core.proofs.RoomMade.{pages_kept}
 use Rattle.std.specs.Prelude.{◌≡◌, ◌≤◌, ◌<◌, ◌^◌, Some, IsTrue, length, ◌+◌, ◌%◌, refl}
 use Rattle.std.proofs.Common.{arith, ap, subst, sym, ◌∙◌, length-set}
 use Rattle.sd_base.specs.Shape.{page_count}
@@ -107,3 +108,11 @@ returns-clause-besides g c = λ told.
     let b = (g.D.Disk.state c.change-done.new.disk).block in
     let d = (g.D.Disk.state c.give_up.new.disk).block in
     subst (λ v. NarrowsBesides v.shape a d) c.self.view_is (besides_still s a b d (log_besides s c.in-Up.cache a b is.one is.is.store is.is.log_tie (c.change-done.ensures.outcomes told)) (c.give_up.ensures.outcomes told))
+
+-- ---- the pages and their blocks
+
+pub returns-in-Ok-clause-pages : goal.returns-in-Ok-clause-pages
+returns-in-Ok-clause-pages g c = λ told.
+    let is : IsCluster c.self.inside.shape c.self.inside.shared.pool c.self.inside.shared.owners (Up c.in-Up.cache c.in-Up.seats) = subst (IsCluster c.self.inside.shape c.self.inside.shared.pool c.self.inside.shared.owners) c.in-Up.is c.self.invariant in
+    pages_kept c.self.inside.shape c.args.x c.in-Up.cache.log.tail c.in-Up.cache c.change-done.new.c c.args.self.now _ c.in-Up.seats _ (g.D.Disk.state c.args.disk.now).block (g.D.Disk.state c.change-done.new.disk).block
+    (sym (ap (λ v. v.shape) c.self.view_is)) (sym (ap (λ v. v.node) c.self.view_is) ∙ c.in-Up.is) refl is.is.store is.is.log_tie (c.in-Ok.ensures.pages) (c.in-Ok.ensures.contents told)

@@ -9,13 +9,13 @@ use Rattle.record_machine.proofs.SealSteps.{sealed_own}
 use Rattle.record_machine.proofs.Steps.{means_sealed, means_unlocked}
 use Rattle.cluster_core.specs.declared.node.Node.TheVariants.{Up}
 use Rattle.cluster_core.specs.Cluster.{IsCluster}
-use Rattle.cluster_core.specs.Footprint.{KeepsAllButLog, NarrowsBesides}
+use Rattle.cluster_core.specs.Footprint.{KeepsAllButLog, NarrowsBesides, NarrowsToRing}
 use Rattle.cluster_core.specs.Ports.{OnUp}
 use Rattle.cluster_core.specs.Shows.{ShowsNode, ShowsStore}
 use Rattle.cluster_core.proofs.Logging.{can_logged, cluster_logged}
 use Rattle.cluster_core.proofs.ShownCommit.{txn_of, up_ended}
 use Rattle.cluster_core.proofs.ShownLogged.{length_shown}
-use Rattle.cluster_core.proofs.Footprints.{besides_still, log_alone, log_besides}
+use Rattle.cluster_core.proofs.Footprints.{besides_still, log_alone, log_besides, log_ring}
 use Rattle.cluster_core.proofs.cluster.Cluster.commit.Goals as goal
 
 pub invariant_of-self : goal.invariant_of-self
@@ -78,3 +78,21 @@ returns-clause-besides g c = λ told.
     let b = (g.D.Disk.state c.commit-done.new.disk).block in
     let d = (g.D.Disk.state c.give_up.new.disk).block in
     subst (λ v. NarrowsBesides v.shape a d) c.self.view_is (besides_still s a b d (log_besides s c.in-Up.cache a b is.one is.is.store is.is.log_tie (c.commit-done.ensures.outcomes told)) (c.give_up.ensures.outcomes told))
+
+-- ---- no block but those of the ring
+
+pub returns-in-Ok-clause-ring : goal.returns-in-Ok-clause-ring
+returns-in-Ok-clause-ring g c = λ told.
+    let is : IsCluster c.self.inside.shape c.self.inside.shared.pool c.self.inside.shared.owners (Up c.in-Up.cache c.in-Up.seats) = subst (IsCluster c.self.inside.shape c.self.inside.shared.pool c.self.inside.shared.owners) c.in-Up.is c.self.invariant in
+    let a = (g.D.Disk.state c.args.disk.now).block in
+    let b = (g.D.Disk.state c.commit-done.new.disk).block in
+    subst (λ v. NarrowsToRing v.shape a b) c.self.view_is (log_ring c.self.inside.shape c.in-Up.cache a b is.one is.is.store is.is.log_tie (c.commit-done.ensures.outcomes told))
+
+pub returns-clause-ring : goal.returns-clause-ring
+returns-clause-ring g c = λ told.
+    let is : IsCluster c.self.inside.shape c.self.inside.shared.pool c.self.inside.shared.owners (Up c.in-Up.cache c.in-Up.seats) = subst (IsCluster c.self.inside.shape c.self.inside.shared.pool c.self.inside.shared.owners) c.in-Up.is c.self.invariant in
+    let s = c.self.inside.shape in
+    let a = (g.D.Disk.state c.args.disk.now).block in
+    let b = (g.D.Disk.state c.commit-done.new.disk).block in
+    let d = (g.D.Disk.state c.give_up.new.disk).block in
+    subst (λ v. NarrowsToRing v.shape a d) c.self.view_is (λ k o ring may. log_ring s c.in-Up.cache a b is.one is.is.store is.is.log_tie (c.commit-done.ensures.outcomes told) k o ring (c.give_up.ensures.outcomes told k o may))

@@ -1,9 +1,8 @@
-use Rattle.std.specs.Prelude.{◌≡◌, ◌≢◌, ◌==◌, ◌*◌, ◌+◌, ◌^◌, ◌<◌, ◌≤◌, Bool, true, false, List, None, Option, Some, IsTrue, IfSome, cond, refl}
+use Rattle.std.specs.Prelude.{◌≡◌, ◌≢◌, ◌==◌, ◌*◌, ◌+◌, ◌^◌, ◌<◌, true, false, List, None, Some, IfSome, cond}
 use Rattle.std.proofs.Common.{arith, ap, subst, sym, ◌∙◌}
 use Rattle.std.proofs.lemmas.Bool.{eq-eqb}
 use Rattle.std.proofs.lemmas.Bool.Decides.{nat_tests}
 use Rattle.sd_base.specs.Calls.{Keeps-then}
-use Rattle.sd_base.specs.declared.names.PageNo.{PageNo}
 use Rattle.log_record.specs.declared.record.LogRecord.{LogRecord}
 use Rattle.txn_core.specs.Seats.{OpenTxn, txn_in}
 use Rattle.txn_core.specs.Told.{AreTold, HasRecords}

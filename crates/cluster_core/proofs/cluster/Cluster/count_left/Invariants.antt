@@ -1,4 +1,4 @@
-use Rattle.std.proofs.Common.{◌≡◌, ◌≤◌, ◌+◌, ◌*◌, ◌^◌, ℕ, None, Some, IfSome, IsTrue}
+use Rattle.std.proofs.Common.{◌≡◌, ◌≤◌, ◌+◌, ◌*◌, ◌^◌, None, IfSome, IsTrue}
 use Rattle.sd_base.specs.Calls.{Keeps, Narrows}
 use Rattle.record_machine.specs.Machine.{Machine}
 use Rattle.cluster_core.specs.Aborts.{IsNumberOf, IsWithin}

@@ -5,6 +5,10 @@ use Rattle.script_text.specs.declared.command.Command.TheVariants as asks
 use Rattle.record_machine.specs.Commands.{Step}
 use Rattle.record_machine.specs.Machine.{Machine}
 use Rattle.cluster_core.specs.Known.{known}
+use Rattle.std.specs.Prelude.{refl}
+use Rattle.cluster_core.specs.Footprint.{says_done}
+use Rattle.cluster_core.proofs.Footprints.{kept_covered}
+use Rattle.cluster_core.proofs.DoneReplies.{done_deleted, done_found, done_of, fault_not_done, reason_not_done, taken_by}
 use Rattle.cluster_core.specs.Ports.{says_stop}
 use Rattle.cluster_core.specs.Shows.{IsShown}
 use Rattle.cluster_core.proofs.Steps.{abort_step, append_step, begin_step, commit_step, delete_step, error_then, flush_step, get_step, known_step, put_step, start_step, stat_step, test_of}
@@ -273,3 +277,39 @@ returns-in-Abort-clause-abort_told g c = λ told none t same.
     subst (λ k. IsToldOfAbort c.abort.new.self (g.D.Disk.state c.abort.new.disk).block k.seat c.reply_of-in-Abort.result) (sym one)
     (subst (IsToldOfAbort c.abort.new.self (g.D.Disk.state c.abort.new.disk).block c.in-Abort.t.seat) (sym c.reply_of-in-Abort.ensures)
     (told_of (IsToldOfAbort c.abort.new.self (g.D.Disk.state c.abort.new.disk).block c.in-Abort.t.seat) c.abort.result tt (c.abort.ensures.told told)))
+
+-- ---- what is cached when a command on a record is done
+
+pub returns-in-Err-clause-taken : goal.returns-in-Err-clause-taken
+returns-in-Err-clause-taken g c = λ told none.
+    let some = test_of (known c.args.self.now c.args.command.now) c.check.result c.in-Err.why c.check.ensures c.in-Err.is in
+    let never : Some c.in-Err.why ≡ None = sym some ∙ none in cc
+
+pub returns-in-Get-clause-taken : goal.returns-in-Get-clause-taken
+returns-in-Get-clause-taken g c = λ told none done key names m shown.
+    taken_by c.get.new.self m c.args.command.now (asks.Get c.in-Get.t c.in-Get.key) key c.in-Get.key c.in-Get.is refl names
+    (done_found c.get.result (IsFaultFor c.args.self.now.shape c.in-Get.key) (fault_not_done c.args.self.now.shape c.in-Get.key) c.get.ensures.fault (subst (λ r. says_done r ≡ true) c.reply_found.ensures done) c.get.ensures.taken told m shown)
+
+pub returns-in-Put-clause-taken : goal.returns-in-Put-clause-taken
+returns-in-Put-clause-taken g c = λ told none done key names m shown.
+    taken_by c.write_record.new.self m c.args.command.now (asks.Put c.in-Put.t c.in-Put.key c.in-Put.value) key c.in-Put.key c.in-Put.is refl names
+    (done_of c.write_record.result (IsWriteReason c.write_record.new.self c.in-Put.key (Put c.in-Put.value)) (reason_not_done c.write_record.new.self c.in-Put.key (Put c.in-Put.value)) c.write_record.ensures.refused
+    (subst (λ r. says_done r ≡ true) c.reply_of-in-Put.ensures done) c.write_record.ensures.taken told m shown)
+
+pub returns-in-Append-clause-taken : goal.returns-in-Append-clause-taken
+returns-in-Append-clause-taken g c = λ told none done key names m shown.
+    taken_by c.write_record-in-Append.new.self m c.args.command.now (asks.Append c.in-Append.t c.in-Append.key c.in-Append.bytes) key c.in-Append.key c.in-Append.is refl names
+    (done_of c.write_record-in-Append.result (IsWriteReason c.write_record-in-Append.new.self c.in-Append.key (Append c.in-Append.bytes)) (reason_not_done c.write_record-in-Append.new.self c.in-Append.key (Append c.in-Append.bytes)) c.write_record-in-Append.ensures.refused
+    (subst (λ r. says_done r ≡ true) c.reply_of-in-Append.ensures done) c.write_record-in-Append.ensures.taken told m shown)
+
+pub returns-in-Del-clause-taken : goal.returns-in-Del-clause-taken
+returns-in-Del-clause-taken g c = λ told none done key names m shown.
+    taken_by c.delete.new.self m c.args.command.now (asks.Del c.in-Del.t c.in-Del.key) key c.in-Del.key c.in-Del.is refl names
+    (done_deleted c.delete.result (IsWriteReason c.delete.new.self c.in-Del.key Delete) (reason_not_done c.delete.new.self c.in-Del.key Delete) c.delete.ensures.refused
+    (subst (λ r. says_done r ≡ true) c.reply_deleted.ensures done) c.delete.ensures.taken told m shown)
+
+-- ---- what a commit leaves of the blocks
+
+pub returns-in-Commit-clause-commit_covered : goal.returns-in-Commit-clause-commit_covered
+returns-in-Commit-clause-commit_covered g c = λ told t asked.
+    kept_covered c.args.self.now.shape (g.D.Disk.state c.args.disk.now).block (g.D.Disk.state c.commit.new.disk).block (λ k. g.met.D.Disk.lawful c.args.disk.now k told) (λ k. g.met.D.Disk.lawful c.commit.new.disk k told) (c.commit.ensures.ring told)

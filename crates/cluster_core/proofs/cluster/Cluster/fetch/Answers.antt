@@ -26,6 +26,9 @@ use Rattle.node_cache.specs.Room.{map_of}
 use Rattle.cluster_core.specs.Changes.{HasMap, ShowsMap}
 use Rattle.cluster_core.specs.Footprint.{NarrowsBesides}
 use Rattle.cluster_core.proofs.MapStays.{map_kept}
+use Rattle.cluster_core.proofs.RoomMade.{CacheRoom, made_room, room_arrived, room_hit}
+use Rattle.node_cache.specs.Cache.{CacheState}
+use Rattle.sd_base.specs.Disk.{DiskState}
 use Rattle.cluster_core.proofs.Footprints.{besides_still, pages_besides, same_cluster}
 use Rattle.cluster_core.proofs.cluster.Cluster.fetch.Given as given
 use Rattle.cluster_core.proofs.cluster.Cluster.fetch.Goals as goal
@@ -215,3 +218,23 @@ returns-clause-besides g c = λ told.
     let b = (g.D.Disk.state c.fetch-done.new.disk).block in
     let d = (g.D.Disk.state c.give_up.new.disk).block in
     subst (λ v. NarrowsBesides v.shape a d) c.self.view_is (besides_still s a b d (pages_besides s c.in-Up.cache c.self.inside.shared.pool (leaving s c.args.x c.in-Up.cache.pages) a b is.one is.is.store is.is.log_tie (all_left (λ p. p.ticket.page.0 < page_count s) s c.args.x c.in-Up.cache.pages is.is.store.pages) (c.fetch-done.ensures.outcomes told)) (c.give_up.ensures.outcomes told))
+
+-- ---- which page made room
+
+pub returns-in-Ok-clause-made_room : goal.returns-in-Ok-clause-made_room
+returns-in-Ok-clause-made_room g c = λ told.
+    let s = c.self.inside.shape in
+    let a = (g.D.Disk.state c.args.disk.now).block in
+    let b = (g.D.Disk.state c.fetch-done.new.disk).block in
+    let is : IsCluster s c.self.inside.shared.pool c.self.inside.shared.owners (Up c.in-Up.cache c.in-Up._seats) = subst (IsCluster s c.self.inside.shared.pool c.self.inside.shared.owners) c.in-Up.is c.self.invariant in
+    made_room c.args.x c.args.self.now _ s c.in-Up.cache c.fetch-done.new.self c.in-Up._seats c.in-Up._seats a b (sym (ap (λ v. v.shape) c.self.view_is)) (sym (ap (λ v. v.node) c.self.view_is) ∙ c.in-Up.is) refl (then (is_cached c.args.x c.in-Up.cache) refl told is)
+  where
+    then : (o : Bool) → is_cached c.args.x c.in-Up.cache ≡ o → IsTrue g.D.Disk.told → IsCluster c.self.inside.shape c.self.inside.shared.pool c.self.inside.shared.owners (Up c.in-Up.cache c.in-Up._seats)
+        → CacheRoom c.self.inside.shape c.args.x c.in-Up.cache c.fetch-done.new.self (g.D.Disk.state c.args.disk.now).block (g.D.Disk.state c.fetch-done.new.disk).block
+    then true hit told is =
+        let same = c.fetch-done.ensures.hit hit in
+        let R : CacheState → DiskState → Type 0 = λ d e. CacheRoom c.self.inside.shape c.args.x c.in-Up.cache d (g.D.Disk.state c.args.disk.now).block e.block in
+        subst (λ d. R d (g.D.Disk.state c.fetch-done.new.disk)) (sym same.1) (subst (λ v. R c.in-Up.cache (g.D.Disk.state v)) (sym same.4) (room_hit c.self.inside.shape c.args.x c.in-Up.cache (g.D.Disk.state c.args.disk.now).block))
+    then false miss told is =
+        room_arrived c.self.inside.shape c.args.x c.args.e c.in-Up.cache c.fetch-done.new.self _ c.fetch-done.new.pool (g.D.Disk.state c.args.disk.now).block (g.D.Disk.state c.fetch-done.new.disk).block
+        c.law_of_pages.ensures.few is.is.store is.is.log_tie miss (c.in-Ok.ensures.arrived miss) (c.in-Ok.ensures.contents told)

@@ -1,9 +1,8 @@
-use Rattle.std.proofs.Common.{◌≡◌, ◌<◌, true, false, IsTrue, ap, subst, sym, ◌∙◌}
+use Rattle.std.proofs.Common.{◌≡◌, ◌<◌, true, false, ap, subst, sym, ◌∙◌}
 use Rattle.sd_base.specs.Shape.{first_page, page_count}
 use Rattle.private_log.specs.Reading.{contents}
 use Rattle.state_ids.specs.Blocks.{page_place}
 use Rattle.node_cache.specs.Cache.{is_changed}
-use Rattle.record_machine.specs.Machine.{Machine}
 use Rattle.cluster_core.specs.declared.node.Node.TheVariants.{Up}
 use Rattle.cluster_core.specs.Causes.{IsToldOfPages}
 use Rattle.cluster_core.specs.Cluster.{IsCluster}

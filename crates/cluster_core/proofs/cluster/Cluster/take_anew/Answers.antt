@@ -3,7 +3,7 @@ use Rattle.node_cache.specs.Cache.{is_cached, is_changed}
 use Rattle.cluster_core.specs.Ports.{OnUp, says_stop}
 use Rattle.cluster_core.proofs.Footprints.{besides_then}
 use Rattle.cluster_core.proofs.ShownHolds.{err_then, untaken, up_then}
-use Rattle.cluster_core.proofs.Testing.{on_done, passed_on}
+use Rattle.cluster_core.proofs.Testing.{passed_on}
 use Rattle.cluster_core.proofs.cluster.Cluster.take_anew.Goals as goal
 
 pub returns-in_err-fetch-clause-stopped : goal.returns-in_err-fetch-clause-stopped

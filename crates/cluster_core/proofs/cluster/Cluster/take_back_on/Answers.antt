@@ -3,7 +3,6 @@ use Rattle.node_cache.specs.Cache.{is_cached}
 use Rattle.cluster_core.specs.Aborts.{IsToldOfAbort}
 use Rattle.cluster_core.specs.Causes.{IsAbortFault}
 use Rattle.cluster_core.specs.Changes.{KeepsSeats}
-use Rattle.cluster_core.specs.Footprint.{NarrowsBesides}
 use Rattle.cluster_core.specs.Ports.{OnUp, is_up, says_stop}
 use Rattle.cluster_core.specs.Shows.{IsShown}
 use Rattle.cluster_core.proofs.AbortCauses.{pages_fault, pages_told}

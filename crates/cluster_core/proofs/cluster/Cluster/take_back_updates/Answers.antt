@@ -1,12 +1,12 @@
-use Rattle.std.specs.Prelude.{◌≡◌, ◌≤◌, true, None, Option, Some, IsTrue, MatchOption, replicate, refl}
+use Rattle.std.specs.Prelude.{◌≡◌, ◌≤◌, true, None, Some, MatchOption, replicate, refl}
 use Rattle.std.proofs.Common.{subst, sym, ◌∙◌}
 use Rattle.sd_base.specs.Calls.{Keeps-then}
-use Rattle.txn_core.specs.Seats.{OpenTxn, is_busy, txn_in}
+use Rattle.txn_core.specs.Seats.{OpenTxn, txn_in}
 use Rattle.record_machine.specs.Machine.{Deed, Machine, Write, newest_of}
 use Rattle.record_machine.specs.Commands.{backs}
-use Rattle.record_machine.specs.Parts.{Back, dos, one}
+use Rattle.record_machine.specs.Parts.{Back, dos}
 use Rattle.cluster_core.specs.Changes.{LeavesLess}
-use Rattle.cluster_core.specs.Ports.{OnUp, is_up, says_stop}
+use Rattle.cluster_core.specs.Ports.{OnUp, says_stop}
 use Rattle.cluster_core.specs.Shows.{IsShown}
 use Rattle.cluster_core.proofs.Backs.{all_back, one_back}
 use Rattle.cluster_core.proofs.Footprints.{besides_then}

@@ -3,7 +3,6 @@ use Rattle.sd_base.specs.Calls.{Keeps-then}
 use Rattle.txn_core.specs.Seats.{is_busy}
 use Rattle.cluster_core.specs.Aborts.{IsNumberOf, IsWithin}
 use Rattle.cluster_core.specs.Changes.{KeepsSeats}
-use Rattle.cluster_core.specs.Footprint.{NarrowsBesides}
 use Rattle.cluster_core.specs.Ports.{OnUp, is_up, says_stop}
 use Rattle.cluster_core.specs.Shows.{IsShown}
 use Rattle.cluster_core.proofs.Footprints.{besides_then}

@@ -1,10 +1,9 @@
-use Rattle.std.proofs.Common.{◌≡◌, ◌⊎◌, true, IsTrue, inl, inr, subst, sym, ◌∙◌}
-use Rattle.sd_base.specs.Shape.{page_count}
+use Rattle.std.proofs.Common.{◌≡◌, true, subst, sym}
 use Rattle.cluster_core.specs.Aborts.{IsToldOfAbort}
 use Rattle.cluster_core.specs.Causes.{IsAbortFault}
 use Rattle.cluster_core.specs.Ports.{says_stop}
 use Rattle.cluster_core.specs.Shows.{IsShown}
-use Rattle.cluster_core.proofs.AbortCauses.{log_fault, log_told, pages_fault, pages_told, room_fault, room_told}
+use Rattle.cluster_core.proofs.AbortCauses.{pages_fault, pages_told}
 use Rattle.cluster_core.proofs.Footprints.{besides_then}
 use Rattle.cluster_core.proofs.ShownHolds.{err_then}
 use Rattle.cluster_core.proofs.Testing.{on_done, passed_on}

@@ -1,9 +1,7 @@
-use Rattle.std.specs.Prelude.{◌≡◌, ◌*◌, ◌+◌, ◌^◌, ◌<◌, ◌≤◌, ℕ, true, List, IsTrue, refl}
+use Rattle.std.specs.Prelude.{◌≡◌, ◌+◌, ◌^◌, ◌<◌, ◌≤◌, true}
 use Rattle.std.proofs.Common.{arith, inr, ap, subst, sym, ◌∙◌}
-use Rattle.sd_base.specs.declared.names.PageNo.{PageNo}
 use Rattle.script_text.specs.declared.reply.Reply.TheVariants as says
 use Rattle.state_ids.specs.Blocks.{page_place}
-use Rattle.cluster_core.specs.Aborts.{HasNoRoomFor}
 use Rattle.cluster_core.specs.Ports.{says_stop}
 use Rattle.cluster_core.proofs.ShownRoom.{has_room}
 use Rattle.cluster_core.proofs.Testing.{passed_on}

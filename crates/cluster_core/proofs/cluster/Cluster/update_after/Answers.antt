@@ -1,16 +1,15 @@
-use Rattle.std.specs.Prelude.{◌≡◌, ◌*◌, ◌<◌, ◌≤◌, ◌++◌, ℕ, List, true, None, Option, Some, IsTrue, IfErr, IfOk, IfSome, MatchOption, Result, Ok, Err, refl}
+use Rattle.std.specs.Prelude.{◌≡◌, ◌*◌, ◌<◌, true, None, Some, IsTrue, IfSome, MatchOption, refl}
 use Rattle.std.proofs.Common.{arith, subst, sym}
 use Rattle.sd_base.specs.Calls.{Keeps, Keeps-then}
-use Rattle.sd_base.specs.Shape.{first_page, page_count}
+use Rattle.sd_base.specs.Shape.{first_page}
 use Rattle.compensation.specs.Left.{uncompensated}
-use Rattle.txn_core.specs.Seats.{OpenTxn, is_busy, txn_in}
-use Rattle.record_machine.specs.Machine.{Deed, Machine, Write, newest_of, writes_of}
-use Rattle.record_machine.specs.Meaning.{Plain}
-use Rattle.cluster_core.specs.Aborts.{IsLeftAfter, IsNextAfter, IsNumberOf}
+use Rattle.txn_core.specs.Seats.{is_busy}
+use Rattle.record_machine.specs.Machine.{Deed, Write, newest_of}
+use Rattle.cluster_core.specs.Aborts.{IsLeftAfter, IsNumberOf}
 use Rattle.cluster_core.specs.declared.node.Node.TheVariants.{Up}
 use Rattle.cluster_core.specs.Cluster.{IsCluster}
 use Rattle.cluster_core.specs.Ports.{OnUp, says_stop}
-use Rattle.cluster_core.specs.Shows.{IsShown, ShowsNode, ShowsStore, ShowsUp}
+use Rattle.cluster_core.specs.Shows.{ShowsNode, ShowsStore}
 use Rattle.cluster_core.proofs.Fetching.{can_halt, is_one, never, stop_says}
 use Rattle.cluster_core.proofs.LeftWrites.{found_first, found_number, found_range, left_after, numbers_back}
 use Rattle.cluster_core.proofs.ShownHolds.{no_err, ok_then}

@@ -1,5 +1,6 @@
+use Rattle.cluster_core.proofs.RoomMade.{pages_kept}
 use Rattle.std.specs.Prelude.{◌≡◌, ◌+◌, ◌*◌, ◌≤◌, ◌<◌, ◌^◌, Some, IfSome, refl, ◌%◌}
-use Rattle.std.proofs.Common.{arith, subst, sym}
+use Rattle.std.proofs.Common.{arith, subst, sym, ap, ◌∙◌}
 use Rattle.sd_base.specs.declared.page_op.PageOp.TheVariants as ops
 use Rattle.frame_pool.specs.Frames.{frame_at}
 use Rattle.space_map.specs.Image.{IsMapText, MapImage}
@@ -147,3 +148,11 @@ returns-clause-besides g c = λ told.
     let b = (g.D.Disk.state c.change-done.new.disk).block in
     let d = (g.D.Disk.state c.give_up.new.disk).block in
     subst (λ v. NarrowsBesides v.shape a d) c.self.view_is (besides_still s a b d (log_besides s c.in-Up.cache a b is.one is.is.store is.is.log_tie (c.change-done.ensures.outcomes told)) (c.give_up.ensures.outcomes told))
+
+-- ---- the pages and their blocks
+
+pub returns-in-Ok-clause-pages : goal.returns-in-Ok-clause-pages
+returns-in-Ok-clause-pages g c = λ told.
+    let is : IsCluster c.self.inside.shape c.self.inside.shared.pool c.self.inside.shared.owners (Up c.in-Up.cache c.in-Up._seats) = subst (IsCluster c.self.inside.shape c.self.inside.shared.pool c.self.inside.shared.owners) c.in-Up.is c.self.invariant in
+    pages_kept c.self.inside.shape c.args.map c.in-Up.cache.log.tail c.in-Up.cache c.change-done.new.self c.args.self.now _ c.in-Up._seats _ (g.D.Disk.state c.args.disk.now).block (g.D.Disk.state c.change-done.new.disk).block
+    (sym (ap (λ v. v.shape) c.self.view_is)) (sym (ap (λ v. v.node) c.self.view_is) ∙ c.in-Up.is) refl is.is.store is.is.log_tie (c.in-Ok.ensures.pages c.args.map _ _ refl) (c.in-Ok.ensures.contents told)

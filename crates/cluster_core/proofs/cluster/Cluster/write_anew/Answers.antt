@@ -1,5 +1,5 @@
-use Rattle.std.specs.Prelude.{◌≡◌, ◌≤◌, ◌<◌, ◌%◌, ◌∷◌, [], true, false, IsTrue, Some, Err, option_map, refl}
-use Rattle.std.proofs.Common.{inl, inr, ap, subst, sym, ◌∙◌}
+use Rattle.std.specs.Prelude.{◌≡◌, ◌≤◌, ◌<◌, ◌%◌, ◌∷◌, [], true, false, IsTrue, IfSome, Some, Err, option_map, refl}
+use Rattle.std.proofs.Common.{arith, inl, inr, ap, subst, sym, ◌∙◌}
 use Rattle.sd_base.specs.Shape.{page_count}
 use Rattle.record_locks.specs.declared.mode.Mode.TheVariants as locks
 use Rattle.record_locks.specs.Answer.{lock_answer, may_take}
@@ -10,7 +10,8 @@ use Rattle.record_machine.specs.Machine.{group_of, home, map_of, page_at, seen}
 use Rattle.record_machine.specs.Parts.{Change, Lock, Take, Use, dos, one}
 use Rattle.record_machine.proofs.UseSteps.{home_new}
 use Rattle.cluster_core.specs.Answering.{new_takes, reply_of}
-use Rattle.cluster_core.specs.Footprint.{FillsNoBlock}
+use Rattle.cluster_core.specs.Footprint.{FillsNoBlock, HasCached}
+use Rattle.cluster_core.proofs.ShownImages.{map_number_is}
 use Rattle.cluster_core.specs.Known.{checked}
 use Rattle.cluster_core.specs.Places.{map_number, page_number}
 use Rattle.cluster_core.specs.Ports.{says_stop}
@@ -24,7 +25,10 @@ use Rattle.script_text.specs.declared.reply.Reply.{Reply}
 use Rattle.cluster_core.specs.Causes.{HasNoPage, IsFaultFor, IsPageFor, IsToldOfPages, IsWriteReason, IsWriteRefusal}
 use Rattle.cluster_core.proofs.Causing.{place_refused, refusal_told, stop_fault, stop_told, write_refused}
 use Rattle.cluster_core.proofs.Steps.{error_then}
-use Rattle.cluster_core.proofs.Testing.{passed_on}
+use Rattle.cluster_core.proofs.Testing.{on_done, passed_on}
+use Rattle.cluster_core.proofs.Images.{map_of_page}
+use Rattle.cluster_core.proofs.RoomMade.{made_then}
+use Rattle.sd_base.specs.declared.names.PageNo.{PageNo}
 use Rattle.cluster_core.proofs.cluster.Cluster.write_anew.Given as given
 use Rattle.cluster_core.proofs.cluster.Cluster.write_anew.Goals as goal
 
@@ -227,3 +231,36 @@ pub returns-clause-besides : goal.returns-clause-besides
 returns-clause-besides g c = λ told.
     let used = besides_then c.args.self.now.shape c.take_data.new.self.shape (g.D.Disk.state c.args.disk.now).block (g.D.Disk.state c.take_data.new.disk).block (g.D.Disk.state c.use_place.new.disk).block c.take_data.ensures.shape (c.take_data.ensures.besides told) (c.use_place.ensures.besides told) in
     besides_then c.args.self.now.shape c.use_place.new.self.shape (g.D.Disk.state c.args.disk.now).block (g.D.Disk.state c.use_place.new.disk).block (g.D.Disk.state c.write.new.disk).block (c.use_place.ensures.shape ∙ c.take_data.ensures.shape) used (c.write.ensures.besides told)
+
+-- ---- which page made room
+
+pub returns-clause-made_room : goal.returns-clause-made_room
+returns-clause-made_room g c = on_done c.write.result c.write.ensures.pages (λ kept told.
+    let s = c.args.self.now.shape in
+    let x : PageNo = record { 0 = page_number s c.map_page-map.result.0 c.in_ok-place.place } in
+    let low : c.in_ok-place.place ≤ 251 = c.in_ok-place.ensures.place in
+    let at = subst (λ v. c.map_page-map.result.0 ≡ map_number v.shape c.args.key.0) c.self.view_is c.map_page-map.ensures.at in
+    let a = (g.D.Disk.state c.args.disk.now).block in
+    let b = (g.D.Disk.state c.take_data.new.disk).block in
+    let e = (g.D.Disk.state c.use_place.new.disk).block in
+    let first = made_then x c.args.self.now c.take_data.new.self c.use_place.new.self a b e c.take_data.ensures.shape (c.in_ok-x.ensures.made_room told) (c.in_ok-use_place.ensures.pages told) in (
+      x,
+      omega arith,
+      map_of_page s x c.map_page-map.result c.in_ok-place.place low refl ∙ ap (λ n. record { 0 = n }) at,
+      made_then x c.args.self.now c.use_place.new.self c.write.new.self a e (g.D.Disk.state c.write.new.disk).block (c.use_place.ensures.shape ∙ c.take_data.ensures.shape) first (kept told),
+    ))
+
+-- ---- both pages are cached
+
+pub returns-clause-taken : goal.returns-clause-taken
+returns-clause-taken g c = on_done c.write.result c.write.ensures.pages (λ kept told m none shown.
+    let s = c.args.self.now.shape in
+    let there = c.new_place.ensures.there in
+    let at = subst (λ v. c.map_page-map.result.0 ≡ map_number v.shape c.args.key.0) c.self.view_is c.map_page-map.ensures.at in
+    let near = subst (λ v. c.map_page-map.result.0 < v.shape.maps) c.self.view_is c.map_page-map.ensures.low in
+    let news = new_tests c.args.self.now (g.D.Disk.state c.args.disk.now).block shown.0 m shown.1 c.requires.up c.args.key.0 c.in_ok-place.place c.map_page-map.result there.0 c.args.t.node (length_refusal c.args.what.now (seen m c.args.t c.args.key.0)) none at near there.1 (sym (c.new_place.ensures.is there.0 there.1) ∙ c.in_ok-place.was) in
+    let then : (y : PageNo) → HasCached c.take_data.new.self y → HasCached c.write.new.self y = λ y has. (kept told).still y ((c.in_ok-use_place.ensures.pages told).still y has) in
+    let number : c.map_page-map.result ≡ record { 0 = map_of m c.args.key.0 } = ap (λ n. record { 0 = n }) (at ∙ sym (map_number_is c.args.self.now (g.D.Disk.state c.args.disk.now).block shown.0 m c.requires.up shown.1 c.args.key.0)) in (
+      subst (HasCached c.write.new.self) number (then c.map_page-map.result c.in_ok-x.ensures.map_cached),
+      subst (λ o. IfSome o (λ n. HasCached c.write.new.self (record { 0 = n }))) (sym (news.2 ∙ ap Some (sym c.in_ok-x.ensures.page.0))) (then c.in_ok-x.x c.in_ok-x.ensures.cached),
+    ))

@@ -3,11 +3,14 @@ use Rattle.std.proofs.Common.{ap, subst, sym, ◌∙◌}
 use Rattle.std.specs.List.{position}
 use Rattle.space_map.specs.Entry.{is_free}
 use Rattle.record_machine.specs.Commands.{takes_both}
-use Rattle.record_machine.specs.Machine.{home}
+use Rattle.record_machine.specs.Machine.{home, map_of}
+use Rattle.node_cache.specs.Room as room
+use Rattle.sd_base.specs.Shape.{page_count}
+use Rattle.sd_base.specs.declared.names.PageNo.{PageNo}
 use Rattle.record_machine.specs.Parts.{dos}
 use Rattle.cluster_core.specs.Answering.{reply_of}
 use Rattle.cluster_core.specs.Changes.{ShowsMap}
-use Rattle.cluster_core.specs.Footprint.{CanWriteAt, FillsNoBlock}
+use Rattle.cluster_core.specs.Footprint.{CanWriteAt, FillsNoBlock, HasCached, HasTaken, MadeRoom}
 use Rattle.cluster_core.specs.Places.{map_number, page_number}
 use Rattle.cluster_core.specs.Ports.{says_stop}
 use Rattle.cluster_core.specs.Shows.{IsShown}
@@ -15,13 +18,16 @@ use Rattle.cluster_core.proofs.WriteTests.{changes_anew, changes_there, the_erro
 use Rattle.cluster_core.proofs.ShownLocks.{takes_home}
 use Rattle.cluster_core.proofs.Fetching.{never}
 use Rattle.cluster_core.proofs.Footprints.{besides_then, no_place, place_fills, places_cached}
-use Rattle.std.specs.Prelude.{◌⊎◌, IfErr, IfNone}
+use Rattle.std.specs.Prelude.{◌⊎◌, ◌≤◌, ◌<◌, IfErr, IfNone, IsTrue}
 use Rattle.std.proofs.Common.{inr}
 use Rattle.private_log.specs.Reading.{contents}
 use Rattle.cluster_core.specs.Causes.{HasNoPage, IsFaultFor, IsPageFor, IsToldOfPages, IsWriteReason, IsWriteRefusal}
 use Rattle.cluster_core.proofs.Causing.{write_reason, write_told}
 use Rattle.cluster_core.proofs.Steps.{error_then}
-use Rattle.cluster_core.proofs.Testing.{passed_on}
+use Rattle.cluster_core.proofs.Testing.{on_done, passed_on}
+use Rattle.cluster_core.proofs.FoundRows.{both_untaken}
+use Rattle.cluster_core.proofs.RoomMade.{room_both, target_none, target_some}
+use Rattle.cluster_core.proofs.ShownImages.{map_number_is}
 use Rattle.cluster_core.proofs.cluster.Cluster.write_record.Given as given
 use Rattle.cluster_core.proofs.cluster.Cluster.write_record.Goals as goal
 
@@ -119,3 +125,31 @@ returns-in-Some-clause-besides g c = λ told.
 pub returns-in-None-clause-besides : goal.returns-in-None-clause-besides
 returns-in-None-clause-besides g c = λ told.
     besides_then c.args.self.now.shape c.take_group.new.self.shape (g.D.Disk.state c.args.disk.now).block (g.D.Disk.state c.take_group.new.disk).block (g.D.Disk.state c.write_anew.new.disk).block c.take_group.ensures.shape (c.take_group.ensures.besides told) (c.write_anew.ensures.besides told)
+
+-- ---- which page made room, and that both pages are cached
+
+pub returns-in-None-clause-room : goal.returns-in-None-clause-room
+returns-in-None-clause-room g c = on_done c.write_anew.result c.write_anew.ensures.made_room (λ made told.
+    let m = made told in
+    let now = c.args.self.now in
+    let between = c.take_group.new.self in
+    let same = c.take_group.ensures.shape in
+    room_both (record { 0 = map_number now.shape c.args.key.0 }) m.0 now between c.write_anew.new.self (g.D.Disk.state c.args.disk.now).block (g.D.Disk.state c.take_group.new.disk).block (g.D.Disk.state c.write_anew.new.disk).block
+    same (subst (λ s. s.maps ≤ m.0.0) same m.1) (subst (λ s. room.map_of s m.0 ≡ record { 0 = map_number s c.args.key.0 }) same m.2)
+    (subst (λ o. IfNone o (IsTrue g.D.Disk.told → MadeRoom (record { 0 = map_number now.shape c.args.key.0 }) now between (g.D.Disk.state c.args.disk.now).block (g.D.Disk.state c.take_group.new.disk).block)) c.in-None.is c.in_ok-x.ensures.made_room told) m.3)
+
+pub returns-in-Some-clause-taken : goal.returns-in-Some-clause-taken
+returns-in-Some-clause-taken g c = on_done c.write_there.result c.write_there.ensures.pages (λ kept told m shown.
+    let now = c.args.self.now in
+    let is = sym (c.in_ok-x.ensures.found told m shown) ∙ ap (option_map (λ x. x.0)) c.in-Some.is in
+    let number : ◌≡◌ {A = PageNo} (record { 0 = map_number now.shape c.args.key.0 }) (record { 0 = map_of m c.args.key.0 }) = ap (λ n. record { 0 = n }) (sym (map_number_is now (g.D.Disk.state c.args.disk.now).block shown.0 m c.requires.up shown.1 c.args.key.0)) in
+    let page = subst (λ o. IfSome o (λ x. (now.shape.maps ≤ x.0) × (x.0 < page_count now.shape) × HasCached c.take_group.new.self x)) c.in-Some.is c.in_ok-x.ensures.page in (
+      subst (HasCached c.write_there.new.self) number ((kept told).still _ c.in_ok-x.ensures.map_cached),
+      subst (λ o. IfSome o (λ n. HasCached c.write_there.new.self (record { 0 = n }))) (sym (target_some m c.args.key.0 c.in-Some.x.0 is)) ((kept told).still c.in-Some.x page.2),
+    ))
+
+pub returns-in-None-clause-taken : goal.returns-in-None-clause-taken
+returns-in-None-clause-taken g c = on_done c.write_anew.result c.write_anew.ensures.taken (λ taken told m shown.
+    let is = sym (c.in_ok-x.ensures.found told m shown) ∙ ap (option_map (λ x. x.0)) c.in-None.is in
+    let here = both_untaken c.take_group.new.self (g.D.Disk.state c.take_group.new.disk).block m 1 c.args.key.0 (home m c.args.key.0) (c.in_ok-x.ensures.shows told m shown) in
+    subst (HasTaken c.write_anew.new.self m c.args.key.0) (sym (target_none m c.args.key.0 is)) (taken told m is here))

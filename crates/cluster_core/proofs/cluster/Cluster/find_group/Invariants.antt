@@ -1,0 +1,25 @@
+use Rattle.std.proofs.Common.{◌≡◌, ◌^◌, ◌≤◌, ◌<◌, ℕ, true, IsTrue}
+use Rattle.sd_base.specs.Calls.{Keeps, Narrows}
+use Rattle.record_machine.specs.Machine.{Machine}
+use Rattle.cluster_core.specs.Dumps.{AreUnused}
+use Rattle.cluster_core.specs.Footprint.{NarrowsBesides}
+use Rattle.cluster_core.specs.Ports.{IsQuiet, IsServed, is_up}
+use Rattle.cluster_core.specs.Shows.{IsShown}
+use Rattle.cluster_core.proofs.cluster.Cluster.find_group.Given as goal
+
+abbrev pub invariant-loop-x : goal.invariant-loop-x
+invariant-loop-x g l = record {
+  up : is_up l.self.node ≡ true;
+  served : IsServed l.self (g.D.Disk.state l.disk) (g.V.Disk.state l.vault);
+  quiet : IsTrue g.D.Disk.told → IsQuiet l.self (g.D.Disk.state l.disk).block;
+  keeps : Keeps 1 (g.D.Disk.state l.initial.disk) (g.D.Disk.state l.disk);
+  vault_keeps : Keeps 1 (g.V.Disk.state l.initial.vault) (g.V.Disk.state l.vault);
+  besides : IsTrue g.D.Disk.told → NarrowsBesides l.initial.self.shape (g.D.Disk.state l.initial.disk).block (g.D.Disk.state l.disk).block;
+  vault_outcomes : IsTrue g.V.Disk.told → Narrows (g.V.Disk.state l.initial.vault).block (g.V.Disk.state l.vault).block;
+  shape : l.self.shape ≡ l.initial.self.shape;
+  locks : l.self.locks ≡ l.initial.self.locks;
+  low : l.first ≤ l.least;
+  high : l.least ≤ 2 ^ 28;
+  shows : IsTrue g.D.Disk.told → (m : Machine) → IsShown l.initial.self (g.D.Disk.state l.initial.disk).block m → IsShown l.self (g.D.Disk.state l.disk).block m;
+  none : IsTrue g.D.Disk.told → (m : Machine) → IsShown l.initial.self (g.D.Disk.state l.initial.disk).block m → (x : ℕ) → x < l.x → AreUnused l.first l.least (m.entries x);
+}

@@ -1,0 +1,12 @@
+use Rattle.std.proofs.Common.{◌≡◌, ◌≤◌, ◌<◌, ◌%◌, ℕ, None}
+use Rattle.page_image.specs.declared.page_view.PageView.{PageView}
+use Rattle.compensation.specs.Inverse.{content}
+use Rattle.cluster_core.specs.Changes.{ShowsData}
+use Rattle.cluster_core.proofs.cluster.Cluster.next_in_page.Given as goal
+
+abbrev pub invariant-loop-k : goal.invariant-loop-k
+invariant-loop-k l = record {
+  from : l.fn.first.0 ≤ l.k;
+  before : (v : PageView) → ShowsData l.self l.x v → (k : ℕ) → l.fn.first.0 ≤ k → k < l.k → content v (k % 16) ≡ None;
+  there : l.fn.first.0 < l.k → (v : PageView) × ShowsData l.self l.x v;
+}

@@ -1,0 +1,222 @@
+-- The replies to a dump, one row after the other.
+use Rattle.std.specs.Prelude.{◌≤◌, ◌<◌, ◌^◌, ◌-◌, map}
+use Rattle.std.proofs.Common.{◌≡◌, ◌≢◌, ◌⊎◌, ◌+◌, ◌∙◌, ℕ, Bool, true, false, List, [], ◌∷◌, ◌++◌, Option, Some, None, length, take, drop, inl, inr, refl, ap, sym, subst, arith, append_assoc}
+use Rattle.std.proofs.lemmas.List.{append-nil, map-append, take-append-drop}
+use Rattle.std.proofs.lemmas.List.Concat.{flat_map-append}
+use Rattle.std.proofs.Math.Seq.{take-append_seam}
+use Rattle.sd_base.specs.declared.device.NodeId.{NodeId}
+use Rattle.sd_base.specs.declared.names.Key.{Key}
+use Rattle.script_text.specs.Reply.{reply_text}
+use Rattle.script_text.specs.declared.command.Command.TheVariants as asks
+use Rattle.script_text.specs.declared.reply.Reply.{Reply}
+use Rattle.script_text.specs.declared.reply.Reply.TheVariants as says
+use Rattle.record_machine.specs.Commands.{refusal}
+use Rattle.record_machine.specs.Machine.{Machine}
+use Rattle.record_machine.specs.Rows.{AreAllRows, AreRows, DumpStep, IsInUse, IsNextRow, Row, RowStep, Takes, row_reply}
+use Rattle.record_machine.proofs.RowLaws.{no_rows, rows_all, rows_more, rows_rest}
+use Rattle.cluster_core.specs.Ports.{says_stop}
+use Rattle.shared_store.specs.Answering.{IsRowFrom, NextAnswered, NextOpen, end_of_dump}
+use Rattle.shared_store.specs.Output.{IsPart}
+use Rattle.shared_store.specs.StoreState.{StoreState, shut, opened, stopped, AnswersDump}
+use Rattle.shared_store.specs.Transcript.{replies_text}
+use Rattle.shared_store.proofs.Answering.{IsNoRow, refusal_no_row}
+
+-- ---- the machine, when it was asked for some rows
+
+-- a node that has taken pages twice
+Takes-then : (m : Machine) (n : NodeId) (hold : ℕ → Option ℕ) (S : Machine → Type 0) → ((x : ℕ) → (hold x ≡ m.hold x) ⊎ ((hold x ≡ Some n.0) × IsInUse m x)) → Takes (record m { hold = hold }) n S → Takes m n S
+Takes-then m n hold S taken t = record { hold = t.hold; taken = λ x. by x (t.taken x); after = t.after }
+  where
+    by : (x : ℕ) → (t.hold x ≡ hold x) ⊎ ((t.hold x ≡ Some n.0) × IsInUse (record m { hold = hold }) x) → (t.hold x ≡ m.hold x) ⊎ ((t.hold x ≡ Some n.0) × IsInUse m x)
+    by x (inr now) = inr now
+    by x (inl same) = elim (taken x) [
+      | inl before ↦ inl (same ∙ before)
+      | inr before ↦ inr (same ∙ before.0, before.1)
+    ]
+
+-- what the next row is, the machine says whatever pages are held
+next_row : (m : Machine) (hold : ℕ → Option ℕ) (first : ℕ) (reply : Reply) → IsNextRow (record m { hold = hold }) first reply → IsNextRow m first reply
+next_row m hold first (says.Row key value) is = record { from = is.from; there = is.there; least = is.least }
+next_row m hold first says.NoMore is = is
+next_row m hold first reply is = absurd is
+
+RowStep-then : (m : Machine) (n : NodeId) (hold : ℕ → Option ℕ) (first : ℕ) (reply : Reply) (S : Machine → Type 0) → ((x : ℕ) → (hold x ≡ m.hold x) ⊎ ((hold x ≡ Some n.0) × IsInUse m x)) → refusal m (asks.Dump n) ≡ None
+    → RowStep (record m { hold = hold }) n first reply S → RowStep m n first reply S
+RowStep-then m n hold first reply S taken none step =
+    let same : refusal (record m { hold = hold }) (asks.Dump n) ≡ None = none in
+    let h = rw same at step in rw none (next_row m hold first reply h.0, Takes-then m n hold S taken h.1)
+
+NextOpen-then : (stops : Bool) (m : Machine) (n : NodeId) (hold : ℕ → Option ℕ) (first : ℕ) (reply : Reply) (S : StoreState → Type 0) → ((x : ℕ) → (hold x ≡ m.hold x) ⊎ ((hold x ≡ Some n.0) × IsInUse m x)) → refusal m (asks.Dump n) ≡ None
+    → NextOpen stops (record m { hold = hold }) n first reply S → NextOpen stops m n first reply S
+NextOpen-then true m n hold first reply S taken none next = next
+NextOpen-then false m n hold first reply S taken none next = RowStep-then m n hold first reply (λ k. S (opened k)) taken none next
+
+-- ---- a dump that goes on
+
+-- From this machine a dump has given these rows, and then this reply where a further row was asked for. Where it has given
+-- a row, it isn't refused.
+pub record GoesOnOpen (m : Machine) (n : NodeId) (rows : List Row) (reply : Reply) (S : StoreState → Type 0) : Type 0 where
+  pub first : ℕ
+  pub below : first ≤ 2 ^ 32
+  pub are : AreRows m first rows
+  pub allowed : (rows ≡ []) ⊎ (refusal m (asks.Dump n) ≡ None)
+  pub next : NextOpen (says_stop reply) m n first reply S
+
+-- and from this state of a store
+abbrev pub Dumps : StoreState → NodeId → List Row → Reply → (StoreState → Type 0) → Type 0
+Dumps (shut seal) n rows reply S = (rows ≡ []) × (reply ≡ says.Closed) × S (shut seal)
+Dumps (opened m) n rows reply S = GoesOnOpen m n rows reply S
+Dumps stopped n rows reply S = S stopped
+
+pub dumps_none : (state : StoreState) (n : NodeId) (reply : Reply) (S : StoreState → Type 0) → NextAnswered state n 0 reply S → Dumps state n [] reply S
+dumps_none (shut seal) n reply S next = (refl, next.0, next.1)
+dumps_none (opened m) n reply S next = record { first = 0; below = omega arith; are = no_rows m; allowed = inl refl; next = next }
+dumps_none stopped n reply S next = next
+
+-- the row that was found from there on
+record Finds (m : Machine) (n : NodeId) (rows : List Row) (key : Key) (value : List ℕ) (S : StoreState → Type 0) : Type 0 where
+  pub are : AreRows m (key.0 + 1) (rows ++ record { key = key; value = value } ∷ [])
+  pub allowed : refusal m (asks.Dump n) ≡ None
+  pub takes : Takes m n (λ next. S (opened next))
+
+found_row : (m : Machine) (n : NodeId) (rows : List Row) (key : Key) (value : List ℕ) (S : StoreState → Type 0) → GoesOnOpen m n rows (says.Row key value) S → Finds m n rows key value S
+found_row m n rows key value S on = by (refusal m (asks.Dump n)) refl
+  where
+    by : (o : Option Reply) → refusal m (asks.Dump n) ≡ o → Finds m n rows key value S
+    by None is = let h = rw is at on.next in record { are = rows_more m on.first key value rows on.are h.0; allowed = is; takes = h.1 }
+    by (Some why) is = let h = rw is at on.next in absurd (subst IsNoRow (sym h.0) (refusal_no_row m n why is))
+
+-- one row more, and the reply behind it
+pub dumps_more : (state : StoreState) (n : NodeId) (rows : List Row) (key : Key) (value : List ℕ) (reply : Reply) (S T : StoreState → Type 0) → key.0 < 2 ^ 32 → Dumps state n rows (says.Row key value) S
+    → ((k : StoreState) → S k → NextAnswered k n (key.0 + 1) reply T) → Dumps state n (rows ++ record { key = key; value = value } ∷ []) reply T
+dumps_more (shut seal) n rows key value reply S T range on next = let never = on.1 in cc
+dumps_more (opened m) n rows key value reply S T range on next =
+    let found = found_row m n rows key value S on in
+    record {
+      first = key.0 + 1;
+      below = omega (arith, range);
+      are = found.are;
+      allowed = inr found.allowed;
+      next = NextOpen-then (says_stop reply) m n found.takes.hold (key.0 + 1) reply T found.takes.taken found.allowed (next _ found.takes.after);
+    }
+dumps_more stopped n rows key value reply S T range on next = next stopped on
+
+-- ---- a dump that ends
+
+-- the reply was no row, and ends it
+pub dumps_end : (state : StoreState) (n : NodeId) (rows : List Row) (reply : Reply) (S : StoreState → Type 0) → ((key : Key) (value : List ℕ) → reply ≢ says.Row key value) → Dumps state n rows reply S
+    → AnswersDump state n (map row_reply rows ++ end_of_dump reply (length rows) ∷ []) S
+dumps_end (shut seal) n rows reply S ends on = (rw (on.0, on.1) refl, on.2)
+dumps_end (opened m) n rows reply S ends on = by (says_stop reply) refl
+  where
+    stop_last : (reply : Reply) → says_stop reply ≡ true → end_of_dump reply (length rows) ≡ reply
+    stop_last says.NoMore stops = cc
+    stop_last reply stops = refl
+
+    why_last : (why : Reply) → IsNoRow why → end_of_dump why (length rows) ≡ why
+    why_last says.NoMore none = absurd none
+    why_last why none = refl
+
+    all : (reply : Reply) → ((key : Key) (value : List ℕ) → reply ≢ says.Row key value) → IsNextRow m on.first reply → AreAllRows m (map row_reply rows ++ end_of_dump reply (length rows) ∷ [])
+    all (says.Row key value) ends is = absurd (ends key value refl)
+    all says.NoMore ends is = record { rows = rows; are = rows_all m on.first rows on.below on.are is; said = refl }
+    all reply ends is = absurd is
+
+    refused : (why : Reply) → refusal m (asks.Dump n) ≡ Some why → reply ≡ why → map row_reply rows ++ end_of_dump reply (length rows) ∷ [] ≡ why ∷ []
+    refused why is same = elim on.allowed [
+      | inl none ↦ ap (λ rs. map row_reply rs ++ end_of_dump reply (length rows) ∷ []) none ∙ ap (λ r. end_of_dump r (length rows) ∷ []) same ∙ ap (λ r. r ∷ []) (why_last why (refusal_no_row m n why is))
+      | inr allowed ↦ let never : Some why ≡ None = sym is ∙ allowed in cc
+    ]
+
+    step : (o : Option Reply) → refusal m (asks.Dump n) ≡ o → says_stop reply ≡ false → DumpStep m n (map row_reply rows ++ end_of_dump reply (length rows) ∷ []) (λ next. S (opened next))
+    step None is runs =
+        let next : RowStep m n on.first reply (λ k. S (opened k)) = subst (λ b. NextOpen b m n on.first reply S) runs on.next in
+        let h = rw is at next in rw is (all reply ends h.0, h.1)
+    step (Some why) is runs =
+        let next : RowStep m n on.first reply (λ k. S (opened k)) = subst (λ b. NextOpen b m n on.first reply S) runs on.next in
+        let h = rw is at next in rw is (refused why is h.0, h.1)
+
+    by : (stops : Bool) → says_stop reply ≡ stops → AnswersDump (opened m) n (map row_reply rows ++ end_of_dump reply (length rows) ∷ []) S
+    by true is = inr (
+      record { end = on.first; rows = rows; are = on.are; last = reply; stops = is; said = ap (λ r. map row_reply rows ++ r ∷ []) (stop_last reply is) },
+      subst (λ b. NextOpen b m n on.first reply S) is on.next,
+    )
+    by false is = inl (step (refusal m (asks.Dump n)) refl is)
+dumps_end stopped n rows reply S ends on = on
+
+-- the sink failed at a row: those behind it are the machine's
+pub record Completes (state : StoreState) (n : NodeId) (rows : List Row) (row : Row) (S : StoreState → Type 0) : Type 0 where
+  pub more : List Row
+  pub end : List Reply
+  pub quiet : (end ≡ []) ⊎ ((count : ℕ) × (end ≡ says.EndDump count ∷ []))
+  pub answers : AnswersDump state n (map row_reply rows ++ row_reply row ∷ (map row_reply more ++ end)) S
+
+joined : (rows more : List Row) (row : Row) (end : List Reply) → map row_reply rows ++ row_reply row ∷ (map row_reply more ++ end) ≡ map row_reply ((rows ++ row ∷ []) ++ more) ++ end
+joined rows more row end =
+    sym (append_assoc (map row_reply rows) (row_reply row ∷ []) (map row_reply more ++ end))
+    ∙ sym (append_assoc (map row_reply rows ++ row_reply row ∷ []) (map row_reply more) end)
+    ∙ ap (λ rs. (rs ++ map row_reply more) ++ end) (sym (map-append row_reply rows (row ∷ [])))
+    ∙ ap (λ rs. rs ++ end) (sym (map-append row_reply (rows ++ row ∷ []) more))
+
+pub dumps_rest : (state : StoreState) (n : NodeId) (rows : List Row) (key : Key) (value : List ℕ) (S : StoreState → Type 0) → key.0 < 2 ^ 32 → Dumps state n rows (says.Row key value) S
+    → Completes state n rows (record { key = key; value = value }) S
+dumps_rest (shut seal) n rows key value S range on = let never = on.1 in cc
+dumps_rest (opened m) n rows key value S range on =
+    let row : Row = record { key = key; value = value } in
+    let found = found_row m n rows key value S on in
+    let rest = rows_rest m (key.0 + 1) (rows ++ row ∷ []) (omega (arith, range)) found.are in
+    let count : ℕ = length ((rows ++ row ∷ []) ++ rest.0) in
+    record {
+      more = rest.0;
+      end = says.EndDump count ∷ [];
+      quiet = inr (count, refl);
+      answers = inl (rw found.allowed (record { rows = (rows ++ row ∷ []) ++ rest.0; are = rest.1; said = joined rows rest.0 row (says.EndDump count ∷ []) }, found.takes));
+    }
+dumps_rest stopped n rows key value S range on = record { more = []; end = []; quiet = inl refl; answers = on }
+
+-- ---- how many rows there may be
+
+-- so many rows were given, each with a key below that of the row which is given now
+abbrev pub IsBelow : ℕ → Reply → Type 0
+IsBelow count (says.Row key value) = count ≤ key.0
+IsBelow count reply = count ≤ 2 ^ 32
+
+pub below_first : (reply : Reply) → IsBelow 0 reply
+below_first (says.Row key value) = omega arith
+below_first reply = omega arith
+
+pub below_next : (count : ℕ) (key : ℕ) (reply : Reply) → count ≤ key → key < 2 ^ 32 → IsRowFrom (key + 1) reply → IsBelow (count + 1) reply
+below_next count key (says.Row k value) low range from = omega (arith, low, from)
+below_next count key reply low range from = omega (arith, low, range)
+
+-- how many keys there are from that of a row on
+abbrev pub keys_left : Reply → ℕ
+keys_left (says.Row key value) = 2 ^ 32 - key.0
+keys_left reply = 0
+
+-- ---- what the sink takes
+
+-- the replies before one, and a part of it, are a part of all
+pub part_within : (before taken now : List ℕ) (said : List Reply) (reply : Reply) (more : List Reply) → taken ≡ before ++ replies_text said → IsPart taken (reply_text reply) now → IsPart before (replies_text (said ++ reply ∷ more)) now
+part_within before taken now said reply more was part =
+    let front : List ℕ = replies_text said ++ take part.0 (reply_text reply) in
+    let back : List ℕ = drop part.0 (reply_text reply) ++ replies_text more in (
+      length front,
+      part.1
+          ∙ ap (λ xs. xs ++ take part.0 (reply_text reply)) was
+          ∙ append_assoc before (replies_text said) (take part.0 (reply_text reply))
+          ∙ ap (λ xs. before ++ xs) (sym (take-append_seam front back))
+          ∙ ap (λ xs. before ++ take (length front) xs) (whole said reply more part.0),
+    )
+  where
+    whole : (said : List Reply) (reply : Reply) (more : List Reply) (n : ℕ) → (replies_text said ++ take n (reply_text reply)) ++ (drop n (reply_text reply) ++ replies_text more) ≡ replies_text (said ++ reply ∷ more)
+    whole said reply more n =
+        append_assoc (replies_text said) (take n (reply_text reply)) (drop n (reply_text reply) ++ replies_text more)
+        ∙ ap (λ xs. replies_text said ++ xs) (sym (append_assoc (take n (reply_text reply)) (drop n (reply_text reply)) (replies_text more)) ∙ ap (λ xs. xs ++ replies_text more) (take-append-drop n (reply_text reply)))
+        ∙ sym (flat_map-append reply_text said (reply ∷ more))
+
+-- and all of it too
+pub whole_within : (before taken now : List ℕ) (said : List Reply) (reply : Reply) → taken ≡ before ++ replies_text said → now ≡ taken ++ reply_text reply → now ≡ before ++ replies_text (said ++ reply ∷ [])
+whole_within before taken now said reply was all =
+    all ∙ ap (λ xs. xs ++ reply_text reply) was ∙ append_assoc before (replies_text said) (reply_text reply)
+    ∙ ap (λ xs. before ++ xs) (ap (λ xs. replies_text said ++ xs) (sym (append-nil (reply_text reply))) ∙ sym (flat_map-append reply_text said (reply ∷ [])))
