@@ -7,3 +7,4 @@ mod Dumping
 mod Sending
 mod Serving
 mod Stating
+mod Unstopped

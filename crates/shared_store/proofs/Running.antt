@@ -13,7 +13,7 @@ use Rattle.shared_store.specs.StoreState.{StoreState, shut, opened, stopped, Ans
 
 -- ---- the same answers, with more that holds of the states after them
 
-Step-map : (m : Machine) (c : Command) (r : Reply) (S T : Machine → Type 0) → ((k : Machine) → S k → T k) → Step m c r S → Step m c r T
+pub Step-map : (m : Machine) (c : Command) (r : Reply) (S T : Machine → Type 0) → ((k : Machine) → S k → T k) → Step m c r S → Step m c r T
 Step-map m c r S T f step = by (refusal m c) refl
   where
     by : (o : Option Reply) → refusal m c ≡ o → Step m c r T
@@ -32,7 +32,7 @@ AnsweredOnce-map disk vault stopped c r S T f a = (a.0, f stopped a.1)
 pub Takes-map : (m : Machine) (n : NodeId) (S T : Machine → Type 0) → ((k : Machine) → S k → T k) → Takes m n S → Takes m n T
 Takes-map m n S T f t = record { hold = t.hold; taken = t.taken; after = f _ t.after }
 
-DumpStep-map : (m : Machine) (n : NodeId) (said : List Reply) (S T : Machine → Type 0) → ((k : Machine) → S k → T k) → DumpStep m n said S → DumpStep m n said T
+pub DumpStep-map : (m : Machine) (n : NodeId) (said : List Reply) (S T : Machine → Type 0) → ((k : Machine) → S k → T k) → DumpStep m n said S → DumpStep m n said T
 DumpStep-map m n said S T f step = by (refusal m (asks.Dump n)) refl
   where
     by : (o : Option Reply) → refusal m (asks.Dump n) ≡ o → DumpStep m n said T

@@ -28,3 +28,8 @@ RoseBy times disk vault disk' vault' = disk' < 2 ^ 64 - 1 → vault' < 2 ^ 64 - 
 pub record AreCounted (replies : List Reply) (old new : Devices) : Type 0 where
   pub stops : (n : ℕ) → RoseBy (count_by (is_stop_of n) replies) (old.disk.cuts n) (old.vault.cuts n) (new.disk.cuts n) (new.vault.cuts n)
   pub faults : (n : ℕ) → RoseBy (count_by (is_fault_of n) replies) (old.disk.faults n) (old.vault.faults n) (new.disk.faults n) (new.vault.faults n)
+
+-- No count of the devices has risen, and none of them stands at its end.
+pub record StandStill (old new : Devices) : Type 0 where
+  pub cuts : (n : ℕ) → (new.disk.cuts n ≡ old.disk.cuts n) × (new.vault.cuts n ≡ old.vault.cuts n) × (new.disk.cuts n < 2 ^ 64 - 1) × (new.vault.cuts n < 2 ^ 64 - 1)
+  pub faults : (n : ℕ) → (new.disk.faults n ≡ old.disk.faults n) × (new.vault.faults n ≡ old.vault.faults n) × (new.disk.faults n < 2 ^ 64 - 1) × (new.vault.faults n < 2 ^ 64 - 1)

@@ -26,6 +26,12 @@ pub data StoreState : Type 0 where
   opened : Machine → StoreState
   stopped : StoreState
 
+-- it is known what the store is: its node hasn't stopped
+abbrev pub IsKnown : StoreState → Type 0
+IsKnown (shut seal) = ⊤
+IsKnown (opened m) = ⊤
+IsKnown stopped = ⊥
+
 -- ---- no store is open. The two numbers are the blocks that the disk and the vault have
 
 -- what a `format` may be answered

@@ -10,10 +10,12 @@
 #![tactic(auto)]
 
 mod answer;
+mod laws;
 mod line;
 mod output;
 mod script;
 mod session;
 mod store;
 
+pub use laws::law_of_runs_without_stops;
 pub use script::{Status, run};
