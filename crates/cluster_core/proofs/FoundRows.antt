@@ -28,7 +28,8 @@ use Rattle.record_machine.proofs.LockSteps.{committed_there}
 use Rattle.cluster_core.specs.Causes.{IsDumpFault, IsFaultFor, IsFoundIn, IsPageFor}
 use Rattle.cluster_core.specs.Changes.{ShowsData, ShowsMap}
 use Rattle.cluster_core.specs.Cluster.{ClusterState}
-use Rattle.cluster_core.specs.Dumps.{AreUnused, HasNoneIn, IsFoundFrom, IsFoundInGroup, IsUnused, group_end}
+use Rattle.cluster_core.specs.Dumps.{AreUnused, IsFoundFrom, IsFoundInGroup, IsUnused, group_end}
+use Rattle.record_machine.specs.Rows.{HasNoneIn}
 use Rattle.cluster_core.specs.Places.{page_number}
 use Rattle.cluster_core.specs.Ports.{is_up}
 use Rattle.cluster_core.specs.Shows.{IsShown}
@@ -56,8 +57,8 @@ fault_of_store s key why shape fault = (fault.0, page_of_store s key fault.0 sha
 -- ---- groups
 
 -- a group that no entry has is at no place
-pub no_place : (g : GroupNo) (first end : ℕ) (entries : List MapEntry) → length entries ≡ 252 → first ≤ g.0 → g.0 < end → AreUnused first end entries → position (is_used_by g) entries ≡ None
-no_place g first end entries count from below unused = by (position (is_used_by g) entries) refl
+pub no_entry : (g : GroupNo) (first end : ℕ) (entries : List MapEntry) → length entries ≡ 252 → first ≤ g.0 → g.0 < end → AreUnused first end entries → position (is_used_by g) entries ≡ None
+no_entry g first end entries count from below unused = by (position (is_used_by g) entries) refl
   where
     never : (e : MapEntry) → IsUnused first end e → is_used_by g e ≡ true → ⊥
     never (Free ident) free used = cc
@@ -144,7 +145,7 @@ module _ (c : ClusterState) (b : ℕ → BlockState) (m : Machine) (shown : IsSh
   pub none_unused : (first end : ℕ) → ((x : ℕ) → x < m.shape.maps → AreUnused first end (m.entries x)) → (k : ℕ) → first ≤ k / 16 → k / 16 < end → m.records k ≡ None
   none_unused first end unused k from below =
       let map : map_of m k < m.shape.maps = below_maps (k / 16) m.shape.maps shown.1.means.pages.shape.maps.0 in
-      let none = no_place (group_of k) first end (m.entries (map_of m k)) (shown.1.means.pages.count (map_of m k) map) from below (unused (map_of m k) map) in
+      let none = no_entry (group_of k) first end (m.entries (map_of m k)) (shown.1.means.pages.count (map_of m k) map) from below (unused (map_of m k) map) in
       none_at k (ap (option_map (page_at m (map_of m k))) none)
 
   -- up to the first key of the group that is found

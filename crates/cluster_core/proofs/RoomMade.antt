@@ -30,7 +30,7 @@ use Rattle.record_machine.specs.Commands.{target}
 use Rattle.record_machine.specs.Machine.{Machine, home, new_home}
 use Rattle.cluster_core.specs.declared.node.Node.TheVariants.{Up}
 use Rattle.cluster_core.specs.Cluster.{ClusterState}
-use Rattle.cluster_core.specs.Footprint.{HasCached, IsFull, KeepsPage, KeepsPages, MadeRoom, MakesRoomAlone}
+use Rattle.cluster_core.specs.Footprint.{HasCached, IsFull, KeepsPage, KeepsCache, MadeRoom, MakesRoomAlone}
 use Rattle.cluster_core.specs.Ports.{OnUp}
 use Rattle.cluster_core.proofs.MapStays.{goes_apart}
 
@@ -148,14 +148,14 @@ room_both map x c m d a b e shape far is first next = λ y low. by y (first.room
 
 -- ---- behind them a page is changed in memory
 
-pub room_then : (c m d : ClusterState) (a b e : ℕ → BlockState) → m.shape ≡ c.shape → MakesRoomAlone c m a b → KeepsPages m d b e → MakesRoomAlone c d a e
+pub room_then : (c m d : ClusterState) (a b e : ℕ → BlockState) → m.shape ≡ c.shape → MakesRoomAlone c m a b → KeepsCache m d b e → MakesRoomAlone c d a e
 room_then c m d a b e shape made kept = λ y low. by y (made y low) (subst (λ s. KeepsPage s y b e) shape (kept.pages y (subst (λ s. y.0 < page_count s) (sym shape) low)))
   where
     by : (y : PageNo) → KeepsPage c.shape y a b ⊎ (HasCached c y × IsFull m) → KeepsPage c.shape y b e → KeepsPage c.shape y a e ⊎ (HasCached c y × IsFull d)
     by y (inl same) still = inl (still ∙ same)
     by y (inr room) still = inr (room.0, kept.full room.1)
 
-pub made_then : (x : PageNo) (c m d : ClusterState) (a b e : ℕ → BlockState) → m.shape ≡ c.shape → MadeRoom x c m a b → KeepsPages m d b e → MadeRoom x c d a e
+pub made_then : (x : PageNo) (c m d : ClusterState) (a b e : ℕ → BlockState) → m.shape ≡ c.shape → MadeRoom x c m a b → KeepsCache m d b e → MadeRoom x c d a e
 made_then x c m d a b e shape made kept = record {
   came = λ y has. made.came y (kept.cached y has);
   full = λ full. kept.full (made.full full);
@@ -186,7 +186,7 @@ cached_with x y number pages = cached_map y (λ p. if is_page x p then changed_b
         by false is = rw is refl
 
 pub pages_kept : (s : Shape) (x : PageNo) (number : ℕ) (k j : CacheState) (c d : ClusterState) (old now : SeatsState) (a b : ℕ → BlockState) → c.shape ≡ s → c.node ≡ Up k old → d.node ≡ Up j now → IsOfStore s k → IsTiedToLog k → j.pages ≡ with_page x (changed_by number) k.pages
-    → KeepsContents (next_place k.log) a b → KeepsPages c d a b
+    → KeepsContents (next_place k.log) a b → KeepsCache c d a b
 pages_kept s x number k j c d old now a b shape was is store tie changed keeps = record {
   cached = λ y has. subst (λ n. OnUp n (λ q seats. IsTrue (is_cached y q))) (sym was) (sym (same y) ∙ subst (λ n. OnUp n (λ q seats. IsTrue (is_cached y q))) is has);
   still = λ y has. subst (λ n. OnUp n (λ q seats. IsTrue (is_cached y q))) (sym is) (same y ∙ subst (λ n. OnUp n (λ q seats. IsTrue (is_cached y q))) was has);

@@ -1,12 +1,12 @@
 -- What a dump finds, where it looks for the records from a key on.
-use Rattle.std.specs.Prelude.{◌≡◌, ◌⊎◌, ◌+◌, ◌*◌, ◌/◌, ◌^◌, ◌≤◌, ◌<◌, ⊤, ℕ, List, Option, Some, None, Result, Ok, Err, IfSome}
+use Rattle.std.specs.Prelude.{◌⊎◌, ◌+◌, ◌*◌, ◌/◌, ◌^◌, ◌≤◌, ◌<◌, ⊤, ℕ, List, Option, Some, None, Result, Ok, Err, IfSome}
 use Rattle.std.specs.List.{slice_get}
 use Rattle.space_map.specs.declared.map_entry.MapEntry.{MapEntry}
 use Rattle.space_map.specs.declared.map_entry.MapEntry.TheVariants.{Free, Used}
 use Rattle.script_text.specs.declared.reply.Reply.{Reply}
 use Rattle.script_text.specs.declared.reply.Reply.TheVariants as says
 use Rattle.record_machine.specs.Machine.{Machine}
-use Rattle.record_machine.specs.Rows.{HasNone, IsNext}
+use Rattle.record_machine.specs.Rows.{HasNone, HasNoneIn, IsNext}
 use Rattle.cluster_core.specs.Cluster.{ClusterState}
 use Rattle.cluster_core.specs.Causes.{IsFoundIn}
 use Rattle.cluster_core.specs.declared.dumping.Row.{Row}
@@ -21,10 +21,6 @@ IsUnused first end (Used g ident) = (g.0 < first) ⊎ (end ≤ g.0)
 -- no entry of a map page has one
 abbrev pub AreUnused : ℕ → ℕ → List MapEntry → Type 0
 AreUnused first end entries = (place : ℕ) → place < 252 → IfSome (slice_get entries place) (IsUnused first end)
-
--- no record has one of these keys
-abbrev pub HasNoneIn : Machine → ℕ → ℕ → Type 0
-HasNoneIn m first end = (k : ℕ) → first ≤ k → k < end → m.records k ≡ None
 
 -- the group of a key ends below this one
 abbrev pub group_end : ℕ → ℕ

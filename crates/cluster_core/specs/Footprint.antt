@@ -52,20 +52,18 @@ HasPlace c map place = OnUp c.node (λ d seats. IsTrue (is_cached (record { 0 = 
 abbrev pub CanWriteAt : ClusterState → ℕ → ℕ → ℕ → Type 0
 CanWriteAt c map count place = HasPlace c map place × FillsNoBlock c count
 
--- All that a write of the key needs is in memory: the map page of its group, and the page into which it goes. This is the
--- one that the group has, or else the first free one, which takes a record more to come into use.
-pub record IsAtHand (c : ClusterState) (key : ℕ) : Type 0 where
-  pub image : MapImage
-  pub map : ShowsMap c (record { 0 = map_number c.shape key }) image
-  pub used : IfSome (position (is_used_by (group_of key)) image.entries) (CanWriteAt c (map_number c.shape key) 1)
-  pub free : position (is_used_by (group_of key)) image.entries ≡ None → IfSome (position is_free image.entries) (CanWriteAt c (map_number c.shape key) 2)
-
--- All that a deletion of the key's record needs is in memory: the map page of its group, and the page that the group has,
--- if it has one.
+-- All that a change of the key's record needs is in memory, if the record is there: the map page of its group, and the page
+-- that the group has.
 pub record IsAtHandToDelete (c : ClusterState) (key : ℕ) : Type 0 where
   pub image : MapImage
   pub map : ShowsMap c (record { 0 = map_number c.shape key }) image
   pub used : IfSome (position (is_used_by (group_of key)) image.entries) (CanWriteAt c (map_number c.shape key) 1)
+
+-- And so is what a write needs: where the group has no page it goes into the first free one, which takes a record more to
+-- come into use.
+pub record IsAtHand (c : ClusterState) (key : ℕ) : Type 0 where
+  pub there : IsAtHandToDelete c key
+  pub free : position (is_used_by (group_of key)) there.image.entries ≡ None → IfSome (position is_free there.image.entries) (CanWriteAt c (map_number c.shape key) 2)
 
 -- ---- pages that are written to make room
 
@@ -96,8 +94,8 @@ MakesRoomAlone c d old new = (y : PageNo) → y.0 < page_count c.shape → Keeps
 abbrev pub HasTaken : ClusterState → Machine → ℕ → Option ℕ → Type 0
 HasTaken c m key x = HasCached c (record { 0 = map_of_key m key }) × IfSome x (λ n. HasCached c (record { 0 = n }))
 
--- no page comes or goes, and no page's block changes
-pub record KeepsPages (c d : ClusterState) (old new : ℕ → BlockState) : Type 0 where
+-- no page comes into the cache or goes, and no page's block changes
+pub record KeepsCache (c d : ClusterState) (old new : ℕ → BlockState) : Type 0 where
   pub cached : (y : PageNo) → HasCached d y → HasCached c y
   pub still : (y : PageNo) → HasCached c y → HasCached d y
   pub full : IsFull c → IsFull d

@@ -13,7 +13,7 @@ ghost use Rattle.record_locks.specs.Held.{mode_of};
 ghost use Rattle.record_machine.specs.Machine.{Machine, Write, free_place, group_of, home, map_of, seen};
 ghost use Rattle.record_machine.specs.Parts.{Change as Changed, Use, one};
 ghost use Rattle.cluster_core.specs.Changes.{HasMap, UsesPlace, value_after};
-ghost use Rattle.cluster_core.specs.Footprint.{FillsNoBlock, KeepsPages, NarrowsBesides};
+ghost use Rattle.cluster_core.specs.Footprint.{FillsNoBlock, KeepsCache, NarrowsBesides};
 ghost use Rattle.cluster_core.specs.Ports.{HasCause, IsQuiet, IsServed, OnUp, is_up, says_stop};
 ghost use Rattle.cluster_core.specs.Shows.{IsShown};
 
@@ -59,7 +59,7 @@ impl Cluster {
         ensures shows { OnOk result (IsTrue D.told → (m : Machine) (w : Write) → home m w.key ≡ Some w.page → w.page ≡ x.0 → w.key % 16 ≡ slot → mode_of m.locks (record { 0 = w.key }) t ≡ Some locks.Write → w.value ≡ value_after what.now (seen m t w.key)
             → IsShown self.old (D.state disk.old).block m → IsShown self.new (D.state disk.new).block (one (Changed t w) m)) }
         ensures stopped { IfErr result (λ why. says_stop why ≡ true) }
-        ensures pages { OnOk result (IsTrue D.told → KeepsPages self.old self.new (D.state disk.old).block (D.state disk.new).block) }
+        ensures pages { OnOk result (IsTrue D.told → KeepsCache self.old self.new (D.state disk.old).block (D.state disk.new).block) }
         ensures memory { FillsNoBlock self.old 1 → (IsOk result) × (disk.new ≡ disk.old) × (vault.new ≡ vault.old) }
     {
         let fault = match &mut self.node {
@@ -115,7 +115,7 @@ impl Cluster {
         ensures shows { OnOk result (IsTrue D.told → (m : Machine) (key : ℕ) → home m key ≡ None → free_place m key ≡ Some place → group_of key ≡ group → map_of m key ≡ map.0
             → IsShown self.old (D.state disk.old).block m → IsShown self.new (D.state disk.new).block (one (Use 1 map.0 place group) m)) }
         ensures stopped { IfErr result (λ why. says_stop why ≡ true) }
-        ensures pages { OnOk result (IsTrue D.told → KeepsPages self.old self.new (D.state disk.old).block (D.state disk.new).block) }
+        ensures pages { OnOk result (IsTrue D.told → KeepsCache self.old self.new (D.state disk.old).block (D.state disk.new).block) }
         ensures memory { FillsNoBlock self.old 1 → (IsOk result) × (disk.new ≡ disk.old) × (vault.new ≡ vault.old) }
     {
         let fault = match &mut self.node {

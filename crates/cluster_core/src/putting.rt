@@ -20,7 +20,7 @@ ghost use Rattle.cluster_core.specs.Answering.{Answers, new_parts, new_takes, re
 ghost use Rattle.private_log.specs.Reading.{contents};
 ghost use Rattle.cluster_core.specs.Causes.{HasNoPage, IsPageFor, IsToldOfPages, IsWriteReason, IsWriteRefusal};
 ghost use Rattle.cluster_core.specs.Changes.{ShowsData, ShowsMap, Suits, length_refusal, new_place, value_after};
-ghost use Rattle.cluster_core.specs.Footprint.{CanWriteAt, FillsNoBlock, HasTaken, IsAtHand, KeepsPages, MadeRoom, MakesRoomAlone, NarrowsBesides};
+ghost use Rattle.cluster_core.specs.Footprint.{CanWriteAt, FillsNoBlock, HasTaken, IsAtHand, KeepsCache, MadeRoom, MakesRoomAlone, NarrowsBesides};
 ghost use Rattle.cluster_core.specs.Known.{checked, has_txn, no_room, room_in};
 ghost use Rattle.cluster_core.specs.Places.{map_number};
 ghost use Rattle.cluster_core.specs.Ports.{HasCause, IsQuiet, IsServed, OnUp, is_up, says_stop};
@@ -130,7 +130,7 @@ impl Cluster {
         ensures shows { OnOk result (IsTrue D.told → (m : Machine) → home m key.0 ≡ Some x.0 → IsShown self.old (D.state disk.old).block m
             → IsShown self.new (D.state disk.new).block (dos (Lock key t locks.Write ∷ Changed t (record { key = key.0; page = x.0; value = value_after what.now (seen m t key.0) }) ∷ []) m)) }
         ensures stopped { IfErr result (λ why. says_stop why ≡ true) }
-        ensures pages { OnOk result (IsTrue D.told → KeepsPages self.old self.new (D.state disk.old).block (D.state disk.new).block) }
+        ensures pages { OnOk result (IsTrue D.told → KeepsCache self.old self.new (D.state disk.old).block (D.state disk.new).block) }
         ensures memory { FillsNoBlock self.old 1 → (IsOk result) × (disk.new ≡ disk.old) × (vault.new ≡ vault.old) }
     {
         self.shared.locks.take(key, t, Mode::Write);
@@ -168,7 +168,7 @@ impl Cluster {
         ensures shape { self.new.shape ≡ self.old.shape }
         ensures step { IsTrue D.told → says_stop (reply_of result) ≡ false → (m : Machine) → home m key.0 ≡ Some x.0 → IsShown self.old (D.state disk.old).block m
             → Answers (first_of (at_limit m x.0 ∷ length_refusal what.now (seen m t key.0) ∷ wants.no_room m t.node 2 ∷ [])) result (IsShown self.new (D.state disk.new).block (dos (Lock key t locks.Write ∷ Changed t (record { key = key.0; page = x.0; value = value_after what.now (seen m t key.0) }) ∷ []) m)) (IsShown self.new (D.state disk.new).block m) }
-        ensures pages { OnOk result (IsTrue D.told → KeepsPages self.old self.new (D.state disk.old).block (D.state disk.new).block) }
+        ensures pages { OnOk result (IsTrue D.told → KeepsCache self.old self.new (D.state disk.old).block (D.state disk.new).block) }
         ensures memory { FillsNoBlock self.old 1 → (disk.new ≡ disk.old) × (vault.new ≡ vault.old) }
     {
         self.law_of_clusters();

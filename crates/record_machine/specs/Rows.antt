@@ -33,15 +33,19 @@ abbrev pub next_key : Option Key → ℕ
 next_key None = 0
 next_key (Some key) = key.0 + 1
 
+-- no record has a key from this one on and below `end`
+abbrev pub HasNoneIn : Machine → ℕ → ℕ → Type 0
+HasNoneIn m first end = (k : ℕ) → first ≤ k → k < end → m.records k ≡ None
+
 -- The record with the least key from this one on.
 pub record IsNext (m : Machine) (first : ℕ) (key : Key) (value : List ℕ) : Type 0 where
   pub from : first ≤ key.0
   pub there : m.records key.0 ≡ Some value
-  pub least : (k : ℕ) → first ≤ k → k < key.0 → m.records k ≡ None
+  pub least : HasNoneIn m first key.0
 
 -- there is none
 abbrev pub HasNone : Machine → ℕ → Type 0
-HasNone m first = (k : ℕ) → first ≤ k → k < 2 ^ 32 → m.records k ≡ None
+HasNone m first = HasNoneIn m first (2 ^ 32)
 
 -- what is answered where the next record is asked for
 abbrev pub IsNextRow : Machine → ℕ → Reply → Type 0

@@ -142,14 +142,13 @@ dumps_end (opened m) n rows reply S ends on = by (says_stop reply) refl
       subst (λ b. NextOpen b m n on.first reply S) is on.next,
     )
     by false is = inl (step (refusal m (asks.Dump n)) refl is)
-dumps_end stopped n rows reply S ends on = on
+dumps_end stopped n rows reply S ends on = ((rows, end_of_dump reply (length rows), refl), on)
 
 -- the sink failed at a row: those behind it are the machine's
 pub record Completes (state : StoreState) (n : NodeId) (rows : List Row) (row : Row) (S : StoreState → Type 0) : Type 0 where
   pub more : List Row
-  pub end : List Reply
-  pub quiet : (end ≡ []) ⊎ ((count : ℕ) × (end ≡ says.EndDump count ∷ []))
-  pub answers : AnswersDump state n (map row_reply rows ++ row_reply row ∷ (map row_reply more ++ end)) S
+  pub count : ℕ
+  pub answers : AnswersDump state n (map row_reply rows ++ row_reply row ∷ (map row_reply more ++ says.EndDump count ∷ [])) S
 
 joined : (rows more : List Row) (row : Row) (end : List Reply) → map row_reply rows ++ row_reply row ∷ (map row_reply more ++ end) ≡ map row_reply ((rows ++ row ∷ []) ++ more) ++ end
 joined rows more row end =
@@ -168,11 +167,12 @@ dumps_rest (opened m) n rows key value S range on =
     let count : ℕ = length ((rows ++ row ∷ []) ++ rest.0) in
     record {
       more = rest.0;
-      end = says.EndDump count ∷ [];
-      quiet = inr (count, refl);
+      count = count;
       answers = inl (rw found.allowed (record { rows = (rows ++ row ∷ []) ++ rest.0; are = rest.1; said = joined rows rest.0 row (says.EndDump count ∷ []) }, found.takes));
     }
-dumps_rest stopped n rows key value S range on = record { more = []; end = []; quiet = inl refl; answers = on }
+dumps_rest stopped n rows key value S range on =
+    let row : Row = record { key = key; value = value } in
+    record { more = []; count = 0; answers = ((rows ++ row ∷ [], says.EndDump 0, joined rows [] row (says.EndDump 0 ∷ []) ∙ ap (λ rs. map row_reply rs ++ says.EndDump 0 ∷ []) (append-nil (rows ++ row ∷ []))), on) }
 
 -- ---- how many rows there may be
 

@@ -43,7 +43,7 @@ AnswersDump-map : (state : StoreState) (n : NodeId) (said : List Reply) (S T : S
 AnswersDump-map (shut seal) n said S T f a = (a.0, f (shut seal) a.1)
 AnswersDump-map (opened m) n said S T f (inl step) = inl (DumpStep-map m n said (λ k. S (opened k)) (λ k. T (opened k)) (λ k. f (opened k)) step)
 AnswersDump-map (opened m) n said S T f (inr stop) = inr (stop.0, f stopped stop.1)
-AnswersDump-map stopped n said S T f a = f stopped a
+AnswersDump-map stopped n said S T f a = (a.0, f stopped a.1)
 
 Answered-map : (disk vault : ℕ) (state : StoreState) (c : Command) (said : List Reply) (S T : StoreState → Type 0) → ((k : StoreState) → S k → T k) → Answered disk vault state c said S → Answered disk vault state c said T
 Answered-map disk vault state c said S T f a = by (dumped_by c) refl
@@ -92,7 +92,7 @@ AnswersDump-end (opened m) n said S (inl step) =
     let end = DumpStep-end m n said (λ k. S (opened k)) step in
     (opened end.0, end.1, inl (DumpStep-map m n said (λ j. j ≡ end.0) (λ j. opened j ≡ opened end.0) (λ j. ap opened) end.2))
 AnswersDump-end (opened m) n said S (inr stop) = (stopped, stop.1, inr (stop.0, refl))
-AnswersDump-end stopped n said S a = (stopped, a, refl)
+AnswersDump-end stopped n said S a = (stopped, a.1, (a.0, refl))
 
 Answered-end : (disk vault : ℕ) (state : StoreState) (c : Command) (said : List Reply) (S : StoreState → Type 0) → Answered disk vault state c said S → (k : StoreState) × S k × Answered disk vault state c said (λ j. j ≡ k)
 Answered-end disk vault state c said S a = by (dumped_by c) refl

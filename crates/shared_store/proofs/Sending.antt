@@ -93,17 +93,14 @@ pub part_row : (n : NodeId) (rows : List Row) (key : Key) (value : List ℕ) (wa
 part_row n rows key value was is old now before said taken range disk vault dumps printed part state shows =
     let row : Row = record { key = key; value = value } in
     let rest = dumps_rest state n rows key value (Shows is now.disk) range (dumps state shows) in
+    let end : List Reply = says.EndDump rest.count ∷ [] in
     record {
-      replies = map row_reply rows ++ row_reply row ∷ (map row_reply rest.more ++ rest.end);
+      replies = map row_reply rows ++ row_reply row ∷ (map row_reply rest.more ++ end);
       answered = rest.answers;
-      part = part_within before said taken (map row_reply rows) (row_reply row) (map row_reply rest.more ++ rest.end) printed part;
-      counted = AreCounted-after (map row_reply rows ++ row_reply row ∷ (map row_reply rest.more ++ rest.end)) old old now
-          (AreCounted-then (map row_reply rows) (row_reply row ∷ (map row_reply rest.more ++ rest.end)) old old old (AreCounted-rows rows old)
-          (AreCounted-then (map row_reply (row ∷ rest.more)) rest.end old old old (AreCounted-rows (row ∷ rest.more) old) (end_counted rest.end rest.quiet) (Grew-same old.disk) (Grew-same old.vault))
+      part = part_within before said taken (map row_reply rows) (row_reply row) (map row_reply rest.more ++ end) printed part;
+      counted = AreCounted-after (map row_reply rows ++ row_reply row ∷ (map row_reply rest.more ++ end)) old old now
+          (AreCounted-then (map row_reply rows) (row_reply row ∷ (map row_reply rest.more ++ end)) old old old (AreCounted-rows rows old)
+          (AreCounted-then (map row_reply (row ∷ rest.more)) end old old old (AreCounted-rows (row ∷ rest.more) old) (AreCounted-one (says.EndDump rest.count) old old (Grew-same old.disk) (Grew-same old.vault) tt) (Grew-same old.disk) (Grew-same old.vault))
           (Grew-same old.disk) (Grew-same old.vault))
           disk.grew vault.grew;
     }
-  where
-    end_counted : (end : List Reply) → (end ≡ []) ⊎ ((count : ℕ) × (end ≡ says.EndDump count ∷ [])) → AreCounted end old old
-    end_counted end (inl none) = rw none (AreCounted-none old)
-    end_counted end (inr one) = rw (one.1) (AreCounted-one (says.EndDump one.0) old old (Grew-same old.disk) (Grew-same old.vault) tt)

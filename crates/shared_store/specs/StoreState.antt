@@ -134,12 +134,16 @@ pub record StopsDump (m : Machine) (replies : List Reply) : Type 0 where
   pub stops : says_stop last ≡ true
   pub said : replies ≡ map row_reply rows ++ last ∷ []
 
+-- rows, and one reply that ends them
+abbrev pub AreDumped : List Reply → Type 0
+AreDumped replies = (rows : List Row) × (last : Reply) × (replies ≡ map row_reply rows ++ last ∷ [])
+
 -- From this state a dump may be answered with these replies, and the store go on to a state of S: where the node didn't
--- stop, with what the machine answers. Once it has stopped nothing is said of them.
+-- stop, with what the machine answers. Once it has stopped nothing is said of the rows.
 abbrev pub AnswersDump : StoreState → NodeId → List Reply → (StoreState → Type 0) → Type 0
 AnswersDump (shut seal) n replies S = (replies ≡ says.Closed ∷ []) × S (shut seal)
 AnswersDump (opened m) n replies S = DumpStep m n replies (λ next. S (opened next)) ⊎ (StopsDump m replies × S stopped)
-AnswersDump stopped n replies S = S stopped
+AnswersDump stopped n replies S = AreDumped replies × S stopped
 
 -- from this state the command may be answered with these replies, and the store go on to a state of S
 abbrev pub Answered : ℕ → ℕ → StoreState → Command → List Reply → (StoreState → Type 0) → Type 0

@@ -1,5 +1,6 @@
 use Rattle.std.proofs.Common.{◌≡◌, ◌+◌, ◌*◌, true, arith, sym, subst}
-use Rattle.cluster_core.specs.Dumps.{HasNoneIn, IsFoundInGroup}
+use Rattle.cluster_core.specs.Dumps.{IsFoundInGroup}
+use Rattle.record_machine.specs.Rows.{HasNoneIn}
 use Rattle.cluster_core.specs.Ports.{says_stop}
 use Rattle.cluster_core.specs.declared.dumping.Found.TheVariants.{Record, NoneBelow}
 use Rattle.cluster_core.proofs.FoundRows.{found_then, none_until}

@@ -2,7 +2,7 @@ use Rattle.std.proofs.Common.{◌≡◌, ◌-◌, ◌^◌, ◌≤◌, true, None
 use Rattle.sd_base.specs.Calls.{Keeps, Narrows}
 use Rattle.record_locks.specs.Held.{least_where}
 use Rattle.record_machine.specs.Machine.{Machine}
-use Rattle.cluster_core.specs.Dumps.{HasNoneIn}
+use Rattle.record_machine.specs.Rows.{HasNoneIn}
 use Rattle.cluster_core.specs.Footprint.{NarrowsBesides}
 use Rattle.cluster_core.specs.Ports.{IsQuiet, IsServed, is_up}
 use Rattle.cluster_core.specs.Shows.{IsShown}

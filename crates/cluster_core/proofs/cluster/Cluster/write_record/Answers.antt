@@ -59,26 +59,26 @@ returns-in-None-clause-step g c = λ told runs m shown.
 pub returns-in_err-x-clause-memory : goal.returns-in_err-x-clause-memory
 returns-in_err-x-clause-memory g c = λ hand.
     let at = map_number c.args.self.now.shape c.args.key.0 in
-    let hit = c.take_group.ensures.hit hand.image hand.map (places_cached c.args.self.now at 1 _ hand.used) in
+    let hit = c.take_group.ensures.hit hand.there.image hand.there.map (places_cached c.args.self.now at 1 _ hand.there.used) in
     absurd (never c.take_group.result _ hit.0 c.in_err-x.was)
 
 pub returns-in-Some-clause-memory : goal.returns-in-Some-clause-memory
 returns-in-Some-clause-memory g c = λ hand.
     let at = map_number c.args.self.now.shape c.args.key.0 in
-    let hit = c.take_group.ensures.hit hand.image hand.map (places_cached c.args.self.now at 1 _ hand.used) in
-    let found = ap (option_map (λ x. x.0)) (sym c.in-Some.is) ∙ c.in_ok-x.ensures.map hand.image (subst (λ v. ShowsMap v (record { 0 = at }) hand.image) (sym hit.1) hand.map) in
-    let room = place_fills c.args.self.now at 1 c.in-Some.x.0 (page_number c.args.self.now.shape at) _ found hand.used in
+    let hit = c.take_group.ensures.hit hand.there.image hand.there.map (places_cached c.args.self.now at 1 _ hand.there.used) in
+    let found = ap (option_map (λ x. x.0)) (sym c.in-Some.is) ∙ c.in_ok-x.ensures.map hand.there.image (subst (λ v. ShowsMap v (record { 0 = at }) hand.there.image) (sym hit.1) hand.there.map) in
+    let room = place_fills c.args.self.now at 1 c.in-Some.x.0 (page_number c.args.self.now.shape at) _ found hand.there.used in
     let same = c.write_there.ensures.memory (subst (λ v. FillsNoBlock v 1) (sym hit.1) room) in
     (same.0 ∙ hit.2, same.1 ∙ hit.3)
 
 pub returns-in-None-clause-memory : goal.returns-in-None-clause-memory
 returns-in-None-clause-memory g c = λ hand.
     let at = map_number c.args.self.now.shape c.args.key.0 in
-    let hit = c.take_group.ensures.hit hand.image hand.map (places_cached c.args.self.now at 1 _ hand.used) in
-    let found = ap (option_map (λ x. x.0)) (sym c.in-None.is) ∙ c.in_ok-x.ensures.map hand.image (subst (λ v. ShowsMap v (record { 0 = at }) hand.image) (sym hit.1) hand.map) in
+    let hit = c.take_group.ensures.hit hand.there.image hand.there.map (places_cached c.args.self.now at 1 _ hand.there.used) in
+    let found = ap (option_map (λ x. x.0)) (sym c.in-None.is) ∙ c.in_ok-x.ensures.map hand.there.image (subst (λ v. ShowsMap v (record { 0 = at }) hand.there.image) (sym hit.1) hand.there.map) in
     let free = hand.free (no_place (page_number c.args.self.now.shape at) _ found) in
-    let same = c.write_anew.ensures.memory hand.image (subst (λ v. ShowsMap v (record { 0 = map_number v.shape c.args.key.0 }) hand.image) (sym hit.1) hand.map)
-    (subst (λ v. IfSome (position is_free hand.image.entries) (CanWriteAt v (map_number v.shape c.args.key.0) 2)) (sym hit.1) free) in
+    let same = c.write_anew.ensures.memory hand.there.image (subst (λ v. ShowsMap v (record { 0 = map_number v.shape c.args.key.0 }) hand.there.image) (sym hit.1) hand.there.map)
+    (subst (λ v. IfSome (position is_free hand.there.image.entries) (CanWriteAt v (map_number v.shape c.args.key.0) 2)) (sym hit.1) free) in
     (same.0 ∙ hit.2, same.1 ∙ hit.3)
 
 -- ---- why it isn't written
