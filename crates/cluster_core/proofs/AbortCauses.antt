@@ -5,16 +5,17 @@ use Rattle.sd_base.specs.Disk.{BlockState}
 use Rattle.sd_base.specs.Shape.{page_count}
 use Rattle.sd_base.specs.declared.names.PageNo.{PageNo}
 use Rattle.sd_base.specs.declared.shape.Shape.{Shape}
+use Rattle.sd_base.specs.Places.{map_of_data}
+use Rattle.sd_base.proofs.PlaceLaws.{map_of_data-below}
 use Rattle.private_log.specs.Content.{region_of}
 use Rattle.private_log.specs.Reading.{contents}
 use Rattle.state_ids.specs.Blocks.{page_place}
-use Rattle.node_cache.specs.Room.{map_of}
 use Rattle.script_text.specs.declared.reply.Reply.{Reply}
 use Rattle.script_text.specs.declared.reply.Reply.TheVariants as says
 use Rattle.cluster_core.specs.Aborts.{HasNoRoomFor, IsToldOfAbort}
 use Rattle.cluster_core.specs.Causes.{IsAbortFault, IsFaultOfPage, IsToldOfPages}
 use Rattle.cluster_core.specs.Cluster.{ClusterState}
-use Rattle.cluster_core.specs.FaultReply.{IsLogReply}
+use Rattle.cluster_core.specs.LogReply.{IsLogReply}
 
 -- a page couldn't be taken
 page_fault : (s : Shape) (x : PageNo) (why : Reply) → x.0 < page_count s → IsFaultOfPage s x why → IsAbortFault s why
@@ -25,8 +26,8 @@ page_fault s x (says.DamagedDisk at) low is = inr (x, low, is)
 page_fault s x why low is = absurd is
 
 -- of those that an update needs
-pub pages_fault : (s : Shape) (x : PageNo) (why : Reply) → s.maps ≤ x.0 → x.0 < page_count s → IsFaultOfPage s (map_of s x) why ⊎ IsFaultOfPage s x why → IsAbortFault s why
-pages_fault s x why far low (inl map) = page_fault s (map_of s x) why (omega (arith, far, low)) map
+pub pages_fault : (s : Shape) (x : PageNo) (why : Reply) → s.maps ≤ x.0 → x.0 < page_count s → IsFaultOfPage s (map_of_data s x) why ⊎ IsFaultOfPage s x why → IsAbortFault s why
+pages_fault s x why far low (inl map) = page_fault s (map_of_data s x) why (let below = map_of_data-below s x far low in omega (arith, below)) map
 pages_fault s x why far low (inr page) = page_fault s x why low page
 
 pub pages_told : (c : ClusterState) (s : Shape) (b : ℕ → BlockState) (seat : ℕ) (why : Reply) → c.shape ≡ s → IsToldOfPages s (contents b) why → IsToldOfAbort c b seat why

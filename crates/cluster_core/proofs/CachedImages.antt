@@ -13,7 +13,6 @@ use Rattle.state_ids.proofs.OneImage.{one_shown}
 use Rattle.node_cache.specs.Cache.{CachedPage, changed_by, is_page, page_at, with_page}
 use Rattle.node_cache.proofs.OnePage.{found, is_page-same}
 use Rattle.txn_core.specs.Updates.{HasPage}
-use Rattle.txn_core.proofs.CompensationLaws.{find_all}
 use Rattle.txn_core.proofs.UpdateLaws.{page_with}
 use Rattle.record_machine.specs.Meaning as meaning
 use Rattle.record_machine.specs.Meaning.{Plain}
@@ -22,6 +21,7 @@ use Rattle.cluster_core.specs.Changes.{HasMap}
 use Rattle.cluster_core.specs.Shows.{image_in}
 use Rattle.cluster_core.proofs.ShownChange.{OnlyPage}
 use Rattle.cluster_core.proofs.ShownFetch.{AreLiving}
+use Rattle.sd_base.proofs.Positions.{find_all}
 
 -- a data page, and a map page, as the store has them
 pub data_image : (s : Shape) (p : Plain) (x : PageNo) → s.maps ≤ x.0 → image_in s p x ≡ data_page (p.pages x.0)

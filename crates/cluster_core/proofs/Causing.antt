@@ -1,5 +1,5 @@
 -- What a command answers when it isn't done.
-use Rattle.std.specs.Prelude.{◌≡◌, ◌≢◌, ◌⊎◌, ◌+◌, ◌-◌, ◌^◌, ◌%◌, ◌≤◌, ◌∷◌, [], ℕ, Bool, true, false, nat_le, nat_lt, not, List, Option, Some, None, Result, Ok, Err, IfErr, IfNone, IfOk, IfSome, length, option_map, if◌then◌else◌, refl}
+use Rattle.std.specs.Prelude.{◌≡◌, ◌≢◌, ◌⊎◌, ◌+◌, ◌-◌, ◌^◌, ◌≤◌, ◌∷◌, [], ℕ, Bool, true, false, nat_le, nat_lt, not, List, Option, Some, None, Result, Ok, Err, IfErr, IfNone, IfOk, IfSome, length, option_map, if◌then◌else◌, refl}
 use Rattle.std.specs.List.{position}
 use Rattle.std.proofs.Common.{arith, inl, inr, ap, subst, sym, ◌∙◌}
 use Rattle.std.proofs.lemmas.Bool.Decides.{nat_tests}
@@ -20,6 +20,7 @@ use Rattle.sd_base.specs.declared.fault.DevFault.TheVariants.{Damaged, Failed, L
 use Rattle.sd_base.specs.declared.names.Key.{Key}
 use Rattle.sd_base.specs.declared.names.PageNo.{PageNo}
 use Rattle.sd_base.specs.declared.shape.Shape.{Shape}
+use Rattle.sd_base.specs.Places.{map_of_key, slot_of_key}
 use Rattle.page_image.specs.declared.page_view.PageView.{PageView}
 use Rattle.space_map.specs.Entry.{is_free}
 use Rattle.space_map.specs.Image.{MapImage}
@@ -47,9 +48,8 @@ use Rattle.cluster_core.specs.Answering.{reply_deleted, reply_flushed, reply_fou
 use Rattle.cluster_core.specs.Causes.{IsFaultFor, IsFaultOfPage, IsPageFor, HasNoPage, IsFoundIn, IsToldOfPages, IsWriteReason, IsWriteRefusal}
 use Rattle.cluster_core.specs.Changes.{ShowsData, ShowsMap, length_refusal, new_place, place_or}
 use Rattle.cluster_core.specs.Cluster.{ClusterState}
-use Rattle.cluster_core.specs.FaultReply.{IsToldDamaged}
 use Rattle.cluster_core.specs.Known.{any_lock, busy, checked, has_txn, is_idle, known, no_lock, no_node, no_room, no_txn, not_idle, not_up, room_in, state_of}
-use Rattle.cluster_core.specs.Places.{map_number}
+use Rattle.cluster_core.specs.LogReply.{IsToldDamaged}
 use Rattle.cluster_core.specs.Ports.{HasCause, is_up, reply_to, says_stop}
 
 -- ---- a page that couldn't be taken
@@ -103,8 +103,8 @@ stop_told s image (says.DamagedDisk at) stops = cc
 stop_told s image why stops = tt
 
 pub stop_fault : (s : Shape) (key : Key) (why : Reply) → says_stop why ≡ true → IsFaultFor s key why
-stop_fault s key (says.Stopped n) stops = (record { 0 = map_number s key.0 }, inl refl, tt)
-stop_fault s key (says.Fault n) stops = (record { 0 = map_number s key.0 }, inl refl, tt)
+stop_fault s key (says.Stopped n) stops = (record { 0 = map_of_key s key.0 }, inl refl, tt)
+stop_fault s key (says.Fault n) stops = (record { 0 = map_of_key s key.0 }, inl refl, tt)
 stop_fault s key why stops = cc
 
 -- ---- a refusal
@@ -117,35 +117,44 @@ refusal_told s image c key what why refused = tt
 
 -- why a record of a cached data page isn't changed
 pub write_refused : (c : ClusterState) (key : Key) (what : Change) (x : PageNo) (v : PageView) (need : ℕ) (why : Reply) → IsPageFor c.shape key x → ShowsData c x v → (need ≡ 2) ⊎ ((need ≡ 3) × HasNoPage c key)
-    → checked (first_of (where_so (nat_le (2 ^ 63) v.ident) (says.Limit x) ∷ length_refusal what (content v (key.0 % 16)) ∷ no_room c need ∷ [])) ≡ Err why → IsWriteRefusal c key what why
-write_refused c key what x v need why page shows needs is = by (nat_le (2 ^ 63) v.ident) (length_refusal what (content v (key.0 % 16))) (nat_lt (room_in c.node) need) refl refl refl is
+    → checked (first_of (where_so (nat_le (2 ^ 63) v.ident) (says.Limit x) ∷ length_refusal what (content v (slot_of_key key.0)) ∷ no_room c need ∷ [])) ≡ Err why → IsWriteRefusal c key what why
+write_refused c key what x v need why page shows needs is = by (nat_le (2 ^ 63) v.ident) (length_refusal what (content v (slot_of_key key.0))) (nat_lt (room_in c.node) need) refl refl refl is
   where
-    too_long : (how : Change) (other : Reply) → length_refusal how (content v (key.0 % 16)) ≡ Some other → IsWriteRefusal c key how other
+    too_long : (how : Change) (other : Reply) → length_refusal how (content v (slot_of_key key.0)) ≡ Some other → IsWriteRefusal c key how other
     too_long (Put value) other is = cc
-    too_long (Append bytes) other is = by_test (nat_lt 248 (length (joined (content v (key.0 % 16)) bytes))) refl is
+    too_long (Append bytes) other is = by_test (nat_lt 248 (length (joined (content v (slot_of_key key.0)) bytes))) refl is
       where
         len : ℕ
-        len = length (joined (content v (key.0 % 16)) bytes)
+        len = length (joined (content v (slot_of_key key.0)) bytes)
 
         by_test : (t : Bool) → nat_lt 248 len ≡ t → where_so t (says.TooLong len) ≡ Some other → IsWriteRefusal c key (Append bytes) other
         by_test true long so = let same : says.TooLong len ≡ other = cc in subst (IsWriteRefusal c key (Append bytes)) same (x, page, v, shows, rw long refl)
         by_test false long so = cc
     too_long Delete other is = cc
 
-    by : (a : Bool) (o : Option Reply) (b : Bool) → nat_le (2 ^ 63) v.ident ≡ a → length_refusal what (content v (key.0 % 16)) ≡ o → nat_lt (room_in c.node) need ≡ b → checked (first_of (where_so a (says.Limit x) ∷ o ∷ where_so b (says.LogFull need (room_in c.node)) ∷ [])) ≡ Err why → IsWriteRefusal c key what why
+    by : (a : Bool) (o : Option Reply) (b : Bool) → nat_le (2 ^ 63) v.ident ≡ a → length_refusal what (content v (slot_of_key key.0)) ≡ o → nat_lt (room_in c.node) need ≡ b → checked (first_of (where_so a (says.Limit x) ∷ o ∷ where_so b (says.LogFull need (room_in c.node)) ∷ [])) ≡ Err why → IsWriteRefusal c key what why
     by true o b high long small is = let same : says.Limit x ≡ why = cc in subst (IsWriteRefusal c key what) same (page, inr (v, shows, grind (arith, nat_tests, high)))
     by false (Some other) b high long small is = let same : other ≡ why = cc in subst (IsWriteRefusal c key what) same (too_long what other long)
     by false None true high long small is = let same : says.LogFull need (room_in c.node) ≡ why = cc in subst (IsWriteRefusal c key what) same (needs, refl, grind (arith, nat_tests, small))
     by false None false high long small is = cc
 
 -- why a group gets no place of its map page
-pub place_refused : (c : ClusterState) (key : Key) (what : Change) (map : PageNo) (image : MapImage) (why : Reply) → map.0 ≡ map_number c.shape key.0 → ShowsMap c map image → HasNoPage c key → new_place map image ≡ Err why → IsWriteRefusal c key what why
+pub place_refused : (c : ClusterState) (key : Key) (what : Change) (map : PageNo) (image : MapImage) (why : Reply) → map.0 ≡ map_of_key c.shape key.0 → ShowsMap c map image → HasNoPage c key → new_place map image ≡ Err why → IsWriteRefusal c key what why
 place_refused c key what map image why at shows page is = by (nat_le (2 ^ 63) image.ident) (position is_free image.entries) refl refl is
   where
-    by : (b : Bool) (o : Option ℕ) → nat_le (2 ^ 63) image.ident ≡ b → position is_free image.entries ≡ o → (if b then Err (says.Limit map) else place_or (says.NoSpace map) o) ≡ Err why → IsWriteRefusal c key what why
-    by true o high none is = let same : says.Limit map ≡ why = cc in subst (IsWriteRefusal c key what) same (inl at, inl (image, shows, grind (arith, nat_tests, high)))
+    by : (b : Bool) (o : Option ℕ) → nat_le (2 ^ 63) image.ident ≡ b → position is_free image.entries ≡ o → place_or (if b then says.Limit map else says.NoSpace map) o ≡ Err why → IsWriteRefusal c key what why
+    by true None high none is = let same : says.Limit map ≡ why = cc in subst (IsWriteRefusal c key what) same (inl at, inl (image, shows, grind (arith, nat_tests, high)))
     by false None high none is = let same : says.NoSpace map ≡ why = cc in subst (IsWriteRefusal c key what) same (at, (image, shows, none), page)
-    by false (Some place) high none is = cc
+    by b (Some place) high none is = cc
+
+-- and why a record isn't written into the page of a place that it would get
+pub new_refused : (c : ClusterState) (key : Key) (what : Change) (map : PageNo) (image : MapImage) (x : PageNo) (v : PageView) (why : Reply) → map.0 ≡ map_of_key c.shape key.0 → ShowsMap c map image → HasNoPage c key → IsPageFor c.shape key x → ShowsData c x v
+    → checked (first_of (where_so (nat_le (2 ^ 63) image.ident) (says.Limit map) ∷ where_so (nat_le (2 ^ 63) v.ident) (says.Limit x) ∷ length_refusal what (content v (slot_of_key key.0)) ∷ no_room c 3 ∷ [])) ≡ Err why → IsWriteRefusal c key what why
+new_refused c key what map image x v why at has_map none page shows is = by (nat_le (2 ^ 63) image.ident) refl is
+  where
+    by : (b : Bool) → nat_le (2 ^ 63) image.ident ≡ b → checked (first_of (where_so b (says.Limit map) ∷ where_so (nat_le (2 ^ 63) v.ident) (says.Limit x) ∷ length_refusal what (content v (slot_of_key key.0)) ∷ no_room c 3 ∷ [])) ≡ Err why → IsWriteRefusal c key what why
+    by true high is = let same : says.Limit map ≡ why = cc in subst (IsWriteRefusal c key what) same (inl at, inl (image, has_map, grind (arith, nat_tests, high)))
+    by false high is = write_refused c key what x v 3 why page shows (inr (refl, none)) is
 
 -- it and a stop are what is in the way of a write whose page is cached
 pub write_reason : (c : ClusterState) (key : Key) (what : Change) (why : Reply) → (says_stop why ≡ true) ⊎ IsWriteRefusal c key what why → IsWriteReason c key what why
@@ -169,7 +178,7 @@ found_or P Q (Err reply) is why = inr why
 
 -- where the group's page is cached, if it has one
 pub found_in : (c : ClusterState) (key : Key) (home : Option PageNo) (found : Option (List ℕ)) → IfNone home (HasNoPage c key) → IfSome home (IsPageFor c.shape key)
-    → IfNone home (found ≡ None) → IfSome home (λ x. (v : PageView) → ShowsData c x v → found ≡ content v (key.0 % 16)) → IfSome home (λ x. (v : PageView) × ShowsData c x v) → IsFoundIn c key found
+    → IfNone home (found ≡ None) → IfSome home (λ x. (v : PageView) → ShowsData c x v → found ≡ content v (slot_of_key key.0)) → IfSome home (λ x. (v : PageView) × ShowsData c x v) → IsFoundIn c key found
 found_in c key None found no_page page none some there = inl (none, no_page)
 found_in c key (Some x) found no_page page none some there = inr (x, page, there.0, there.1, some there.0 there.1)
 

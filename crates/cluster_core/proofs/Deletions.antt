@@ -3,13 +3,13 @@ use Rattle.std.specs.Prelude.{◌≡◌, ◌++◌, ◌∷◌, [], ℕ, false, Li
 use Rattle.std.proofs.Common.{ap, subst, sym, ◌∙◌}
 use Rattle.sd_base.specs.declared.names.Key.{Key}
 use Rattle.sd_base.specs.declared.names.TxnId.{TxnId}
+use Rattle.sd_base.specs.Places.{map_of_key}
 use Rattle.record_locks.specs.declared.mode.Mode.TheVariants as locks
 use Rattle.script_text.specs.declared.command.Command.TheVariants as asks
 use Rattle.script_text.specs.declared.reply.Reply.{Reply}
 use Rattle.record_machine.specs.Machine.{Machine, home, seen}
-use Rattle.record_machine.specs.Machine as machine
 use Rattle.record_machine.specs.Parts.{Change, Lock, Take, dos, one}
-use Rattle.record_machine.specs.Commands.{Stayed, first_of, no_deletion, parts, takes, takes_both}
+use Rattle.record_machine.specs.Commands.{first_of, no_deletion, parts, takes, takes_both}
 use Rattle.record_machine.specs.Commands as wants
 use Rattle.cluster_core.specs.Answering.{Answers, AnswersWith}
 
@@ -32,25 +32,25 @@ without_test (Some why) os = refl
 pub deletes_there : (m : Machine) (t : TxnId) (key : Key) (x : ℕ) (value : List ℕ) (r : Result (Unit {0}) Reply) (S : Machine → Type 0) → t.node.0 ≡ 1 → home m key.0 ≡ Some x → seen m t key.0 ≡ Some value
     → Answers (first_of (wants.at_limit (dos (takes_both m 1 key.0 (home m key.0)) m) x ∷ None ∷ wants.no_room (dos (takes_both m 1 key.0 (home m key.0)) m) t.node 2 ∷ [])) r
     (S (dos (Lock key t locks.Write ∷ Change t (record { key = key.0; page = x; value = None }) ∷ []) (dos (takes_both m 1 key.0 (home m key.0)) m))) (S (dos (takes_both m 1 key.0 (home m key.0)) m))
-    → Answers (no_deletion m t key.0) r (S (dos (parts m (asks.Del t key)) m)) (Stayed m (takes m (asks.Del t key)) S)
+    → Answers (no_deletion m t key.0) r (S (dos (parts m (asks.Del t key)) m)) (S (dos (takes m (asks.Del t key)) m))
 deletes_there m t key x value r S node here there was =
-    let both : dos (takes_both m 1 key.0 (home m key.0)) m ≡ one (Take x t.node.0) (one (Take (machine.map_of m key.0) t.node.0) m) = ap (λ o. dos (takes_both m 1 key.0 o) m) here ∙ ap (λ n. one (Take x n) (one (Take (machine.map_of m key.0) n) m)) (sym node) in
+    let both : dos (takes_both m 1 key.0 (home m key.0)) m ≡ one (Take x t.node.0) (one (Take (map_of_key m.shape key.0) t.node.0) m) = ap (λ o. dos (takes_both m 1 key.0 o) m) here ∙ ap (λ n. one (Take x n) (one (Take (map_of_key m.shape key.0) n) m)) (sym node) in
     let tests : no_deletion m t key.0 ≡ first_of (wants.at_limit m x ∷ wants.no_room m t.node 2 ∷ []) = rw (there, here) refl in
-    subst (λ o. Answers o r (S (dos (parts m (asks.Del t key)) m)) (Stayed m (takes m (asks.Del t key)) S)) (sym tests)
+    subst (λ o. Answers o r (S (dos (parts m (asks.Del t key)) m)) (S (dos (takes m (asks.Del t key)) m))) (sym tests)
     (by (first_of (wants.at_limit m x ∷ wants.no_room m t.node 2 ∷ [])) (subst (λ o. Answers o r (S (dos (Lock key t locks.Write ∷ Change t (record { key = key.0; page = x; value = None }) ∷ []) taken)) (S taken)) (without_test (wants.at_limit m x) (wants.no_room m t.node 2 ∷ []))
     (subst (λ k. Answers (first_of (wants.at_limit k x ∷ None ∷ wants.no_room k t.node 2 ∷ [])) r (S (dos (Lock key t locks.Write ∷ Change t (record { key = key.0; page = x; value = None }) ∷ []) k)) (S k)) both was)))
   where
     taken : Machine
-    taken = one (Take x t.node.0) (one (Take (machine.map_of m key.0) t.node.0) m)
+    taken = one (Take x t.node.0) (one (Take (map_of_key m.shape key.0) t.node.0) m)
 
     whole : dos (parts m (asks.Del t key)) m ≡ dos (Lock key t locks.Write ∷ Change t (record { key = key.0; page = x; value = None }) ∷ []) taken
     whole = rw (there, here) refl
 
-    by : (o : Option Reply) → Answers o r (S (dos (Lock key t locks.Write ∷ Change t (record { key = key.0; page = x; value = None }) ∷ []) taken)) (S taken) → Answers o r (S (dos (parts m (asks.Del t key)) m)) (Stayed m (takes m (asks.Del t key)) S)
+    by : (o : Option Reply) → Answers o r (S (dos (Lock key t locks.Write ∷ Change t (record { key = key.0; page = x; value = None }) ∷ []) taken)) (S taken) → Answers o r (S (dos (parts m (asks.Del t key)) m)) (S (dos (takes m (asks.Del t key)) m))
     by None was = (was.0, subst S (sym whole) was.1)
-    by (Some why) was = (was.0, record { count = 2; after = rw here was.1 })
+    by (Some why) was = (was.0, rw here was.1)
 
 -- where none is there, the lock alone is taken
 pub deletes_none : (m : Machine) (t : TxnId) (key : Key) (S : Machine → Type 0) → seen m t key.0 ≡ None → S (dos (takes_both m t.node.0 key.0 (home m key.0) ++ Lock key t locks.Write ∷ []) m)
-    → AnswersWith (is_some (seen m t key.0)) (no_deletion m t key.0) (Ok false) (S (dos (parts m (asks.Del t key)) m)) (Stayed m (takes m (asks.Del t key)) S)
+    → AnswersWith (is_some (seen m t key.0)) (no_deletion m t key.0) (Ok false) (S (dos (parts m (asks.Del t key)) m)) (S (dos (takes m (asks.Del t key)) m))
 deletes_none m t key S none shown = rw none (refl, shown)

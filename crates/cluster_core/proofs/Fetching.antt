@@ -21,12 +21,13 @@ use Rattle.node_cache.specs.Room.{Arrived, IsOpenTo, Missed, leaving, parked, st
 use Rattle.node_cache.specs.Writes.{AreInReach}
 use Rattle.node_cache.proofs.Leaving.{all_left}
 use Rattle.node_cache.proofs.RoomLaws.{same_writer}
-use Rattle.txn_core.specs.Seats.{AreTied, SeatsState}
-use Rattle.txn_core.proofs.SeatLaws.{all_longer}
+use Rattle.txn_core.specs.Seats.{SeatsState}
+use Rattle.txn_core.proofs.SeatLaws.{tied_same}
 use Rattle.cluster_core.specs.declared.node.Node.TheVariants.{Up}
 use Rattle.cluster_core.specs.Cluster.{CanEnd, IsCluster}
 use Rattle.cluster_core.specs.Ports.{IsCoveredBut, IsWhole, reply_to, says_stop}
-use Rattle.cluster_core.proofs.Nodes.{length-parked, out_at_work}
+use Rattle.cluster_core.proofs.Nodes.{out_at_work}
+use Rattle.node_cache.proofs.Parking.{length-parked}
 
 -- ---- the table of owners
 
@@ -84,19 +85,6 @@ module _ (s : Shape) (x : PageNo) (pool pool' : List (Option (List ℕ))) (owner
   pub left_broken : Missed x [] c.pages pool owners c' pool' owners' ⊎ Missed x (leaving s x c.pages) (staying s x c.pages) pool owners c' pool' owners' → IsLeft c.node owners owners' c c'
   left_broken (inl none) = left_missed [] c.pages (λ k d low. absurd (omega (arith, low))) none
   left_broken (inr one) = left_missed (leaving s x c.pages) (staying s x c.pages) (all_left (λ p. p.ticket.node ≡ c.node) s x c.pages tickets) one
-
--- the tie of the seats, through a call that leaves the log as long as it was
-pub tied_same : (s : SeatsState) (c d : CacheState) → d.node ≡ c.node → SameLog c.log d.log → d.log.tail ≡ c.log.tail → AreTied s c → AreTied s d
-tied_same s c d node same tail tie =
-    let ring : d.log.shape.ring ≡ c.log.shape.ring = ap (λ shape. shape.ring) same.shape in
-    let start = same.start in
-    let room = tie.room in
-    record {
-      node = tie.node ∙ sym node;
-      room = omega (arith, ring, start, tail, room);
-      within = all_longer c.log d.log s.seats start (omega (arith, tail)) tie.within;
-      apart = tie.apart;
-    }
 
 -- ---- the node after it
 

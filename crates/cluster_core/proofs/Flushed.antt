@@ -22,16 +22,17 @@ use Rattle.node_cache.proofs.OnePage.{found, is_page-same}
 use Rattle.node_cache.proofs.SamePages.{all_same, cached_same, same_length}
 use Rattle.txn_core.specs.Seats.{SeatsState, txn_in}
 use Rattle.txn_core.specs.Told.{AreTold}
-use Rattle.txn_core.proofs.CompensationLaws.{find_all}
 use Rattle.record_machine.specs.Machine.{Machine}
 use Rattle.record_machine.specs.Meaning.{Plain}
 use Rattle.cluster_core.specs.declared.node.Node.TheVariants.{Up}
 use Rattle.cluster_core.specs.Cluster.{CanEnd, IsCluster}
 use Rattle.cluster_core.specs.Shows.{IsOnDisk, ShowsUp, deeds_in, entry_in, image_in, numbers_of}
-use Rattle.cluster_core.proofs.Fetching.{is_one, tied_same}
+use Rattle.cluster_core.proofs.Fetching.{is_one}
 use Rattle.cluster_core.proofs.Logging.{ours_still}
 use Rattle.cluster_core.proofs.Nodes.{out_at_work}
 use Rattle.cluster_core.proofs.ShownFetch.{AreLiving, has_more, still_stored, written_stored}
+use Rattle.sd_base.proofs.Positions.{find_all}
+use Rattle.txn_core.proofs.SeatLaws.{tied_same}
 
 -- ---- the node
 

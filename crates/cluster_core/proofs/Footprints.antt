@@ -9,6 +9,7 @@ use Rattle.sd_base.specs.Shape.{page_count}
 use Rattle.sd_base.specs.declared.device.NodeId.{NodeId}
 use Rattle.sd_base.specs.declared.names.PageNo.{PageNo}
 use Rattle.sd_base.specs.declared.shape.Shape.{Shape}
+use Rattle.sd_base.specs.Places.{map_of_key}
 use Rattle.space_map.specs.Entry.{is_free}
 use Rattle.space_map.specs.Image.{MapImage}
 use Rattle.page_owner.specs.declared.owners.Own.{Own}
@@ -24,7 +25,6 @@ use Rattle.cluster_core.specs.declared.node.Node.TheVariants.{Down, Idle, Up}
 use Rattle.cluster_core.specs.Changes.{ShowsMap, UsesPlace, new_place}
 use Rattle.cluster_core.specs.Cluster.{ClusterState}
 use Rattle.cluster_core.specs.Footprint.{CanWriteAt, FillsNoBlock, HasPlace, KeepsAllButLog, KeepsCovered, NarrowsBesides, NarrowsToRing}
-use Rattle.cluster_core.specs.Places.{map_number}
 use Rattle.cluster_core.specs.Ports.{OnUp, is_up}
 use Rattle.cluster_core.proofs.Fetching.{is_one}
 use Rattle.cluster_core.proofs.WriteTests.{place_found}
@@ -137,8 +137,8 @@ no_place number None is = refl
 no_place number (Some place) is = cc
 
 -- the place that the group gets
-pub free_at : (c : ClusterState) (key : ℕ) (map : PageNo) (image : MapImage) (place : ℕ) → map.0 ≡ map_number c.shape key → new_place map image ≡ Ok place → IfSome (position is_free image.entries) (CanWriteAt c (map_number c.shape key) 2) → CanWriteAt c map.0 2 place
-free_at c key map image place at is free = subst (λ n. CanWriteAt c n 2 place) (sym at) (subst (λ o. IfSome o (CanWriteAt c (map_number c.shape key) 2)) (place_found map image place is).1 free)
+pub free_at : (c : ClusterState) (key : ℕ) (map : PageNo) (image : MapImage) (place : ℕ) → map.0 ≡ map_of_key c.shape key → new_place map image ≡ Ok place → IfSome (position is_free image.entries) (CanWriteAt c (map_of_key c.shape key) 2) → CanWriteAt c map.0 2 place
+free_at c key map image place at is free = subst (λ n. CanWriteAt c n 2 place) (sym at) (subst (λ o. IfSome o (CanWriteAt c (map_of_key c.shape key) 2)) (place_found map image place is) free)
 
 -- the map page of the key, by its number
 pub map_at_number : (c : ClusterState) (number : ℕ) (map : PageNo) (image : MapImage) → map.0 ≡ number → ShowsMap c (record { 0 = number }) image → ShowsMap c map image

@@ -1,5 +1,5 @@
 -- What a dump finds on a store that is shown.
-use Rattle.std.specs.Prelude.{◌≡◌, ◌+◌, ◌*◌, ◌/◌, ◌%◌, ◌≤◌, ◌<◌, ℕ, true, List, Option, Some, None, IfNone, IfSome, length, max, option_map, slice_index_or, refl}
+use Rattle.std.specs.Prelude.{◌≡◌, ◌+◌, ◌^◌, ◌≤◌, ◌<◌, ℕ, true, List, Option, Some, None, IfNone, IfSome, length, option_map, slice_index_or, refl}
 use Rattle.std.specs.List.{position, slice_get}
 use Rattle.std.proofs.Common.{arith, ap, inl, inr, subst, sym, ◌∙◌}
 use Rattle.std.proofs.lemmas.Bool.{cases_lt, eqb-true}
@@ -11,6 +11,8 @@ use Rattle.sd_base.specs.declared.names.GroupNo.{GroupNo}
 use Rattle.sd_base.specs.declared.names.Key.{Key}
 use Rattle.sd_base.specs.declared.names.PageNo.{PageNo}
 use Rattle.sd_base.specs.declared.shape.Shape.{Shape}
+use Rattle.sd_base.specs.Places.{first_key, group_of, map_of_group, map_of_key, page_of_place, slot_of_key}
+use Rattle.sd_base.proofs.PlaceLaws.{data_of_place, map_of_key-below}
 use Rattle.page_image.specs.declared.page_view.PageView.{PageView}
 use Rattle.space_map.specs.declared.map_entry.MapEntry.{MapEntry}
 use Rattle.space_map.specs.declared.map_entry.MapEntry.TheVariants.{Free, Used}
@@ -20,21 +22,18 @@ use Rattle.compensation.specs.Inverse.{content}
 use Rattle.record_locks.specs.Held.{least_where}
 use Rattle.script_text.specs.declared.reply.Reply.{Reply}
 use Rattle.record_machine.specs.Commands.{takes_both}
-use Rattle.record_machine.specs.Machine.{Machine, group_of, home, map_of, page_at}
+use Rattle.record_machine.specs.Machine.{Machine, home}
 use Rattle.record_machine.specs.Parts.{Take, dos, one}
 use Rattle.record_machine.specs.Rows.{IsNext}
-use Rattle.record_machine.proofs.Homes.{below_maps}
 use Rattle.record_machine.proofs.LockSteps.{committed_there}
 use Rattle.cluster_core.specs.Causes.{IsDumpFault, IsFaultFor, IsFoundIn, IsPageFor}
 use Rattle.cluster_core.specs.Changes.{ShowsData, ShowsMap}
 use Rattle.cluster_core.specs.Cluster.{ClusterState}
-use Rattle.cluster_core.specs.Dumps.{AreUnused, IsFoundFrom, IsFoundInGroup, IsUnused, group_end}
+use Rattle.cluster_core.specs.Dumps.{AreUnused, IsFirstRecord, IsFoundFrom, IsFoundInGroup, IsUnused, group_end}
 use Rattle.record_machine.specs.Rows.{HasNoneIn}
-use Rattle.cluster_core.specs.Places.{page_number}
 use Rattle.cluster_core.specs.Ports.{is_up}
 use Rattle.cluster_core.specs.Shows.{IsShown}
 use Rattle.cluster_core.specs.declared.dumping.Row.{Row}
-use Rattle.cluster_core.specs.declared.dumping.Found.{Found}
 use Rattle.cluster_core.specs.declared.dumping.Found.TheVariants.{Record, NoneBelow}
 use Rattle.cluster_core.proofs.ShownHolds.{untaken}
 use Rattle.cluster_core.proofs.ShownImages.{data_is, entries_is}
@@ -43,13 +42,13 @@ use Rattle.cluster_core.proofs.ShownImages.{data_is, entries_is}
 
 -- who holds them changes nothing else
 pub both_untaken : (c : ClusterState) (b : ℕ → BlockState) (m : Machine) (n key : ℕ) (x : Option ℕ) → IsShown c b (dos (takes_both m n key x) m) → IsShown c b m
-both_untaken c b m n key None was = untaken c b m (map_of m key) n was
-both_untaken c b m n key (Some x) was = untaken c b m (map_of m key) n (untaken c b (one (Take (map_of m key) n) m) x n was)
+both_untaken c b m n key None was = untaken c b m (map_of_key m.shape key) n was
+both_untaken c b m n key (Some x) was = untaken c b m (map_of_key m.shape key) n (untaken c b (one (Take (map_of_key m.shape key) n) m) x n was)
 
 -- a page that a key needs is one of the store
 pub page_of_store : (s : Shape) (key : Key) (x : PageNo) → IsShape s → IsPageFor s key x → x.0 < page_count s
-page_of_store s key x shape (inl map) = omega (arith, map, below_maps (key.0 / 16) s.maps shape.maps.0)
-page_of_store s key x shape (inr at) = omega (arith, at.1, at.2, below_maps (key.0 / 16) s.maps shape.maps.0)
+page_of_store s key x shape (inl map) = omega (arith, map, map_of_key-below s key.0 shape)
+page_of_store s key x shape (inr at) = let in_store = (data_of_place s (map_of_key s key.0) at.0 (map_of_key-below s key.0 shape) (omega (arith, at.1))).1 in omega (arith, at.2, in_store)
 
 pub fault_of_store : (s : Shape) (key : Key) (why : Reply) → IsShape s → IsFaultFor s key why → IsDumpFault s why
 fault_of_store s key why shape fault = (fault.0, page_of_store s key fault.0 shape fault.1, fault.2)
@@ -86,11 +85,11 @@ unused_less first end less entries low unused = λ place within. by (slice_get e
     by (Some e) free = entry e free
 
 -- keys of one group have one page
-pub same_home : (m : Machine) (key other : ℕ) → other / 16 ≡ key / 16 → home m other ≡ home m key
-same_home m key other same = ap (λ q. option_map (page_at m (q % m.shape.maps)) (position (is_used_by (record { 0 = q })) (m.entries (q % m.shape.maps)))) same
+pub same_home : (m : Machine) (key other : ℕ) → (group_of other).0 ≡ (group_of key).0 → home m other ≡ home m key
+same_home m key other same = ap (λ q. option_map (page_of_place m.shape (map_of_group m.shape (record { 0 = q }))) (position (is_used_by (record { 0 = q })) (m.entries (map_of_group m.shape (record { 0 = q }))))) same
 
 -- the keys from one on that are in its group
-pub in_group : (first k : ℕ) → first ≤ k → k < group_end first → k / 16 ≡ first / 16
+pub in_group : (first k : ℕ) → first ≤ k → k < group_end first → (group_of k).0 ≡ (group_of first).0
 in_group first k from below = omega (arith, from, below)
 
 -- the map pages up to one that was taken
@@ -104,13 +103,13 @@ more_unused c b m x first end less image up near shown low has unused before = �
 ]
 
 -- and need one page
-page_for_same : (s : Shape) (key other : Key) (x : PageNo) → other.0 / 16 ≡ key.0 / 16 → IsPageFor s key x → IsPageFor s other x
-page_for_same s key other x same (inl map) = inl (map ∙ ap (λ q. q % s.maps) (sym same))
-page_for_same s key other x same (inr at) = inr (at.0, at.1, at.2 ∙ ap (λ q. page_number s (q % s.maps) at.0) (sym same))
+page_for_same : (s : Shape) (key other : Key) (x : PageNo) → (group_of other.0).0 ≡ (group_of key.0).0 → IsPageFor s key x → IsPageFor s other x
+page_for_same s key other x same (inl map) = inl (map ∙ ap (λ q. map_of_group s (record { 0 = q })) (sym same))
+page_for_same s key other x same (inr at) = inr (at.0, at.1, at.2 ∙ ap (λ q. page_of_place s (map_of_group s (record { 0 = q })) at.0) (sym same))
 
 -- what the group's page holds of a key is found of it
 pub page_found : (c : ClusterState) (s : Shape) (first : Key) (o : Option PageNo) (x : PageNo) (v : PageView) (found : Option Row) → c.shape ≡ s → o ≡ Some x → IfSome o (IsPageFor s first) → ShowsData c x v
-    → IfSome found (λ r. (first.0 ≤ r.key.0) × (r.key.0 / 16 ≡ first.0 / 16) × ((v : PageView) → ShowsData c x v → content v (r.key.0 % 16) ≡ Some r.value)) → IfSome found (λ r. (first.0 ≤ r.key.0) × IsFoundIn c r.key (Some r.value))
+    → IfSome found (λ r. (first.0 ≤ r.key.0) × ((group_of r.key.0).0 ≡ (group_of first.0).0) × ((v : PageView) → ShowsData c x v → content v (slot_of_key r.key.0) ≡ Some r.value)) → IfSome found (λ r. (first.0 ≤ r.key.0) × IsFoundIn c r.key (Some r.value))
 page_found c s first o x v None same is for_key shows some = tt
 page_found c s first o x v (Some r) same is for_key shows some =
     (some.0, inr (x, page_for_same c.shape first r.key x some.1 (subst (λ t. IsPageFor t first x) (sym same) (subst (λ o. IfSome o (IsPageFor s first)) is for_key)), v, shows, sym (some.2 v shows)))
@@ -130,9 +129,16 @@ next_then m first mid key value low none next = record {
   least = none_then m first mid key.0 none next.least;
 }
 
-pub found_then : (m : Machine) (first mid : ℕ) (found : Found) → first ≤ mid → HasNoneIn m first mid → IsFoundFrom m mid found → IsFoundFrom m first found
-found_then m first mid (Record r) low none is = next_then m first mid r.key r.value low none is
-found_then m first mid (NoneBelow end) low none is = none_then m first mid end none is
+pub record_behind : (m : Machine) (first mid : ℕ) (found : Option Row) → first ≤ mid → HasNoneIn m first mid → IsFirstRecord m mid found → IsFirstRecord m first found
+record_behind m first mid (Some r) low none is = next_then m first mid r.key r.value low none is
+record_behind m first mid None low none is = none_then m first mid (2 ^ 32) none is
+
+-- what is found in the page of the least group that has one, behind groups that have none
+pub found_there : (m : Machine) (first group : ℕ) (r : Row) → first ≤ group → HasNoneIn m (first_key first) (first_key group) → IsFoundInGroup m (first_key group) (Some r) → IsFoundFrom m first (Record r)
+found_there m first group r low none is = next_then m (first_key first) (first_key group) r.key r.value (omega (arith, low)) none is
+
+pub none_there : (m : Machine) (first group : ℕ) → HasNoneIn m (first_key first) (first_key group) → IsFoundInGroup m (first_key group) None → IsFoundFrom m first (NoneBelow (group + 1))
+none_there m first group none is = none_then m (first_key first) (first_key group) (first_key (group + 1)) none (λ k from below. is k from (omega (arith, below)))
 
 -- ---- a store that is shown
 
@@ -142,19 +148,15 @@ module _ (c : ClusterState) (b : ℕ → BlockState) (m : Machine) (shown : IsSh
   none_at key none = shown.1.means.pages.absent key none
 
   -- where no map page has a group, no key of it has a record
-  pub none_unused : (first end : ℕ) → ((x : ℕ) → x < m.shape.maps → AreUnused first end (m.entries x)) → (k : ℕ) → first ≤ k / 16 → k / 16 < end → m.records k ≡ None
+  pub none_unused : (first end : ℕ) → ((x : ℕ) → x < m.shape.maps → AreUnused first end (m.entries x)) → (k : ℕ) → first ≤ (group_of k).0 → (group_of k).0 < end → m.records k ≡ None
   none_unused first end unused k from below =
-      let map : map_of m k < m.shape.maps = below_maps (k / 16) m.shape.maps shown.1.means.pages.shape.maps.0 in
-      let none = no_entry (group_of k) first end (m.entries (map_of m k)) (shown.1.means.pages.count (map_of m k) map) from below (unused (map_of m k) map) in
-      none_at k (ap (option_map (page_at m (map_of m k))) none)
+      let map : map_of_key m.shape k < m.shape.maps = map_of_key-below m.shape k shown.1.means.pages.shape in
+      let none = no_entry (group_of k) first end (m.entries (map_of_key m.shape k)) (shown.1.means.pages.count (map_of_key m.shape k) map) from below (unused (map_of_key m.shape k) map) in
+      none_at k (ap (option_map (page_of_place m.shape (map_of_key m.shape k))) none)
 
   -- up to the first key of the group that is found
-  pub none_before : (first group : ℕ) → ((x : ℕ) → x < m.shape.maps → AreUnused (first / 16) group (m.entries x)) → HasNoneIn m first (16 * group)
-  none_before first group unused = λ k from below. none_unused (first / 16) group unused k (omega (arith, from)) (omega (arith, below))
-
-  -- from the key on where the search goes on
-  pub none_until : (first group mid : ℕ) → mid ≡ max first (16 * group) → ((x : ℕ) → x < m.shape.maps → AreUnused (first / 16) group (m.entries x)) → HasNoneIn m first mid
-  none_until first group mid is unused = λ k from below. none_before first group unused k from (omega (arith, from, below, is))
+  pub none_before : (first group : ℕ) → ((x : ℕ) → x < m.shape.maps → AreUnused first group (m.entries x)) → HasNoneIn m (first_key first) (first_key group)
+  none_before first group unused = λ k from below. none_unused first group unused k (omega (arith, from)) (omega (arith, below))
 
   pub none_in_group : (first : ℕ) → home m first ≡ None → IsFoundInGroup m first None
   none_in_group first none = λ k from below. none_at k (same_home m first k (in_group first k from below) ∙ none)
@@ -162,19 +164,19 @@ module _ (c : ClusterState) (b : ℕ → BlockState) (m : Machine) (shown : IsSh
   module _ (up : is_up c.node ≡ true) (free : least_where (λ l mode. true) c.locks ≡ None) (first : Key) (x : PageNo) (v : PageView) (is : home m first.0 ≡ Some x.0)
       (far : c.shape.maps ≤ x.0) (within : x.0 < page_count c.shape) (shows : ShowsData c x v) where
     -- the slots of the group's page have the committed records
-    committed : (k : ℕ) → k / 16 ≡ first.0 / 16 → content v (k % 16) ≡ m.records k
+    committed : (k : ℕ) → (group_of k).0 ≡ (group_of first.0).0 → content v (slot_of_key k) ≡ m.records k
     committed k same =
-        ap (λ u. content u (k % 16)) (data_is c b shown.0 m up shown.1 x v far within shows)
+        ap (λ u. content u (slot_of_key k)) (data_is c b shown.0 m up shown.1 x v far within shows)
         ∙ committed_there shown.0 m (record { 0 = k }) x.0 shown.1.means.locked shown.1.means.pages (ap (least_where (λ l mode. true)) shown.1.locks ∙ free) (same_home m first.0 k same ∙ is)
 
-    pub found_in_page : (found : Option Row) → IfSome found (λ r. (first.0 ≤ r.key.0) × (r.key.0 / 16 ≡ first.0 / 16) × ((v : PageView) → ShowsData c x v → content v (r.key.0 % 16) ≡ Some r.value))
-        → IfSome found (λ r. (v : PageView) → ShowsData c x v → (k : ℕ) → first.0 ≤ k → k < r.key.0 → content v (k % 16) ≡ None)
-        → IfNone found ((v : PageView) → ShowsData c x v → (k : ℕ) → first.0 ≤ k → k < group_end first.0 → content v (k % 16) ≡ None) → IsFoundInGroup m first.0 found
+    pub found_in_page : (found : Option Row) → IfSome found (λ r. (first.0 ≤ r.key.0) × ((group_of r.key.0).0 ≡ (group_of first.0).0) × ((v : PageView) → ShowsData c x v → content v (slot_of_key r.key.0) ≡ Some r.value))
+        → IfSome found (λ r. (v : PageView) → ShowsData c x v → (k : ℕ) → first.0 ≤ k → k < r.key.0 → content v (slot_of_key k) ≡ None)
+        → IfNone found ((v : PageView) → ShowsData c x v → (k : ℕ) → first.0 ≤ k → k < group_end first.0 → content v (slot_of_key k) ≡ None) → IsFoundInGroup m first.0 found
     found_in_page None some least none = λ k from below. sym (committed k (in_group first.0 k from below)) ∙ none v shows k from below
     found_in_page (Some r) some least none = record {
       from = some.0;
       there = sym (committed r.key.0 some.1) ∙ some.2 v shows;
       least = λ k from below.
-          let same : k / 16 ≡ first.0 / 16 = omega (arith, from, below, some.1) in
+          let same : (group_of k).0 ≡ (group_of first.0).0 = omega (arith, from, below, some.1) in
           sym (committed k same) ∙ least v shows k from below;
     }

@@ -13,14 +13,12 @@ use Rattle.state_ids.specs.Blocks.{IsOfKind, ShowsPage}
 use Rattle.node_cache.specs.Cache.{AreShown, CachedPage, CacheState, is_cached, is_page, page_at}
 use Rattle.node_cache.proofs.OnePage.{found, is_page-same}
 use Rattle.txn_core.specs.Updates.{HasPage}
-use Rattle.txn_core.proofs.CompensationLaws.{find_all}
-use Rattle.node_cache.specs.Room.{map_of}
 use Rattle.cluster_core.specs.declared.node.Node.{Node}
 use Rattle.cluster_core.specs.declared.node.Node.TheVariants.{Down, Idle, Up}
 use Rattle.cluster_core.specs.Changes.{HasMap, ShowsMap}
 use Rattle.cluster_core.specs.Cluster.{ClusterState}
-use Rattle.cluster_core.specs.Places.{page_number}
 use Rattle.cluster_core.specs.Ports.{OnUp}
+use Rattle.sd_base.proofs.Positions.{find_all}
 
 module _ (s : Shape) (pool : List (Option (List ℕ))) (c : CacheState) (x : PageNo) (bytes : List ℕ) (shown : AreShown s pool c) where
   -- what its frame shows
@@ -54,10 +52,6 @@ module _ (s : Shape) (pool : List (Option (List ℕ))) (c : CacheState) (x : Pag
       by : (o : Option CachedPage) → page_at x c.pages ≡ o → IsTrue (is_some o) → IfSome o (λ p. frame_at pool p.frame ≡ Some bytes) → (v : PageView) × HasPage pool c.pages x v × IsTextOf v bytes
       by None at some here = cc
       by (Some p) at some here = let is = shown_at p at in of p at here is.0 is.1 is.2 is.3
-
--- the map page of a place of it
-pub map_of_page : (s : Shape) (x map : PageNo) (place : ℕ) → place ≤ 251 → x.0 ≡ page_number s map.0 place → map_of s x ≡ map
-map_of_page s x map place low at = let number : (map_of s x).0 ≡ map.0 = omega (arith, low, at) in ap (λ n. record { 0 = n }) number
 
 -- a page with an image is cached
 pub cached_map : (c : ClusterState) (x : PageNo) (image : MapImage) → ShowsMap c x image → OnUp c.node (λ k seats. IsTrue (is_cached x k))

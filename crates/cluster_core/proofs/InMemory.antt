@@ -1,16 +1,17 @@
 -- What a node has in memory is what the machine says of it.
-use Rattle.std.specs.Prelude.{◌≡◌, ◌==◌, ◌||◌, ◌+◌, ◌-◌, ◌*◌, ◌^◌, ◌<◌, ◌≤◌, ◌∷◌, [], ℕ, suc, Bool, true, false, List, Option, Some, None, All, IfSome, filter, is_none, is_some, length, map, min, nat_lt, reverse, slice_index_or, refl}
+use Rattle.std.specs.Prelude.{◌≡◌, ◌≢◌, ◌==◌, ◌||◌, ◌+◌, ◌-◌, ◌*◌, ◌^◌, ◌<◌, ◌≤◌, ◌∷◌, [], ℕ, suc, Bool, true, false, List, Option, Some, None, All, IfSome, filter, is_none, is_some, length, map, min, nat_lt, reverse, slice_index_or, refl}
 use Rattle.std.specs.List.{list_any, sum_by}
 use Rattle.std.proofs.Common.{arith, ap, subst, sym, ◌∙◌}
 use Rattle.std.proofs.lemmas.Bool.Decides.{nat_tests}
 use Rattle.std.proofs.lemmas.List.{length-map, length-reverse}
-use Rattle.std.proofs.lemmas.List.Elements.{All-filter, All-head, All-tail, All-cons, All-nil}
+use Rattle.std.proofs.lemmas.List.Elements.{All-filter, All-head, All-tail}
 use Rattle.std.proofs.lemmas.List.Sums.{sum_by-cons}
 use Rattle.sd_base.specs.Disk.{BlockState}
 use Rattle.sd_base.specs.declared.names.TxnId.{TxnId}
 use Rattle.sd_base.specs.declared.shape.Shape.{Shape}
 use Rattle.log_record.specs.declared.record.LogRecord.{LogRecord}
 use Rattle.log_record.specs.declared.record.LogRecord.TheVariants.{Begin}
+use Rattle.log_record.specs.Record.{page_op_of}
 use Rattle.private_log.specs.Log.{space}
 use Rattle.compensation.specs.Finding.{record_at}
 use Rattle.compensation.specs.Left.{uncompensated}
@@ -19,26 +20,12 @@ use Rattle.txn_core.specs.Seats.{AreTied, OpenTxn, SeatsState, owed, owed_in, tx
 use Rattle.txn_core.specs.Told.{IsOpenIn}
 use Rattle.record_machine.specs.Machine as machine
 use Rattle.record_machine.specs.Machine.{Deed, Machine, Write, is_begin_in, is_busy, room}
-use Rattle.record_machine.specs.Meaning.{AreLogged, AreLogs, Plain, Tells, after}
+use Rattle.record_machine.specs.Meaning.{AreLogs, Plain}
 use Rattle.cluster_core.specs.Shows.{ShowsUp, deeds_in, numbers_of}
 use Rattle.cluster_core.proofs.ShownLogged.{tail_shown}
+use Rattle.cluster_core.proofs.LeftWrites.{Stands, all_stand}
 
 -- ---- whether a seat is busy
-
--- the log record of a deed: where it wrote, the record tells so
-record Stands (first : ℕ) (recs : List LogRecord) (d : Deed) : Type 0 where
-  rec : LogRecord
-  there : record_at first recs d.number ≡ Some rec
-  wrote : IfSome d.write (λ w. (v : Option (List ℕ)) × Tells rec w v)
-
-each_stands : (first : ℕ) (recs : List LogRecord) (value : ℕ → ℕ → Option (List ℕ)) (ds : List Deed) → AreLogged first recs value ds → All (Stands first recs) ds
-each_stands first recs value [] all = All-nil (Stands first recs)
-each_stands first recs value (d ∷ ds) all =
-    All-cons (Stands first recs) d ds (record { rec = all.0.rec; there = all.0.there; wrote = by d.write all.0.rec all.0.wrote }) (each_stands first recs (after d value) ds all.1)
-  where
-    by : (o : Option Write) (rec : LogRecord) → IfSome o (λ w. Tells rec w (value d.seat w.key)) → IfSome o (λ w. (v : Option (List ℕ)) × Tells rec w v)
-    by None rec tells = tt
-    by (Some w) rec tells = (value d.seat w.key, tells)
 
 -- a deed whose log record begins a transaction wrote nothing
 began : (first : ℕ) (recs : List LogRecord) (d : Deed) → Stands first recs d → record_at first recs d.number ≡ Some Begin → is_none d.write ≡ true
@@ -47,9 +34,9 @@ began first recs d stands begins = by d.write stands.wrote
     is : stands.rec ≡ Begin
     is = let same : Some stands.rec ≡ Some Begin = sym stands.there ∙ begins in cc
 
-    by : (o : Option Write) → IfSome o (λ w. (v : Option (List ℕ)) × Tells stands.rec w v) → is_none o ≡ true
+    by : (o : Option Write) → IfSome o (λ w. (stands.rec ≢ Begin) × (is_some (page_op_of stands.rec) ≡ true) × IfSome (page_op_of stands.rec) (λ q. q.0.0 ≡ w.page)) → is_none o ≡ true
     by None wrote = refl
-    by (Some w) wrote = absurd (subst (λ rec. Tells rec w wrote.0) is wrote.1)
+    by (Some w) wrote = absurd (wrote.0 is)
 
 -- a seat's deeds are looked at alone
 any_in_seat : (seat : ℕ) (ds : List Deed) → list_any (is_begin_in seat) ds ≡ list_any (λ d. is_none d.write) (deeds_in seat ds)
@@ -112,7 +99,7 @@ owed_below (o ∷ os) k ds each =
 module _ (s : Shape) (pool : List (Option (List ℕ))) (c : CacheState) (seats : SeatsState) (b : ℕ → BlockState) (p : Plain) (m : Machine) where
   pub busy_shown : (t : TxnId) → t.node.0 ≡ 1 → t.seat < 8 → length seats.seats ≡ 8 → AreLogs p m → ShowsUp s pool 1 c seats b p m → is_busy m t ≡ is_some (txn_in seats t.seat)
   busy_shown t node low eight logs up =
-      ap (λ n. list_any (is_begin_in t.seat) (m.pending n)) node ∙ any_in_seat t.seat (m.pending 1) ∙ by (txn_in seats t.seat) refl (deeds_in t.seat (m.pending 1)) (All-filter (λ (d : Deed). d.seat == t.seat) (Stands (6 * m.start 1) (p.live 1)) (m.pending 1) (each_stands (6 * m.start 1) (p.live 1) (λ seat. m.records) (m.pending 1) (logs.deeds 1))) (up.deeds t.seat low)
+      ap (λ n. list_any (is_begin_in t.seat) (m.pending n)) node ∙ any_in_seat t.seat (m.pending 1) ∙ by (txn_in seats t.seat) refl (deeds_in t.seat (m.pending 1)) (All-filter (λ (d : Deed). d.seat == t.seat) (Stands (6 * m.start 1) (p.live 1)) (m.pending 1) (all_stand (6 * m.start 1) (p.live 1) (λ seat. m.records) (m.pending 1) (logs.deeds 1))) (up.deeds t.seat low)
     where
       by : (o : Option OpenTxn) → txn_in seats t.seat ≡ o → (ds : List Deed) → All (Stands (6 * m.start 1) (p.live 1)) ds → map (λ (e : Deed). e.number) ds ≡ numbers_of (6 * c.log.start) (p.live 1) (txn_in seats t.seat) → list_any (λ (d : Deed). is_none d.write) ds ≡ is_some o
       by None is [] stands numbers = refl

@@ -4,7 +4,7 @@ use Rattle.std.specs.List.{count_by, range_with_len, sum_by}
 use Rattle.std.proofs.Common.{arith, inl, inr, ap, subst, sym, ◌∙◌}
 use Rattle.std.proofs.lemmas.List.{append_assoc, append-nil, map-append, reverse-append, reverse-reverse}
 use Rattle.std.proofs.lemmas.List.Sums.{sum_by-append, sum_by-cons}
-use Rattle.std.proofs.lemmas.List.Elements.{All-cons, All-head, All-tail}
+use Rattle.std.proofs.lemmas.List.Elements.{All-cons, All-filter, All-head, All-tail}
 use Rattle.sd_base.specs.Disk.{BlockState}
 use Rattle.sd_base.specs.Shape.{page_count}
 use Rattle.sd_base.specs.declared.names.PageNo.{PageNo}
@@ -35,7 +35,7 @@ use Rattle.cluster_core.specs.Shows.{ShowsUp, deeds_in, numbers_of}
 -- ---- the log record of a deed
 
 -- it stands in the log, and changes the page of the write
-record Stands (first : ℕ) (recs : List LogRecord) (d : Deed) : Type 0 where
+pub record Stands (first : ℕ) (recs : List LogRecord) (d : Deed) : Type 0 where
   pub rec : LogRecord
   pub there : record_at first recs d.number ≡ Some rec
   pub began : d.write ≡ None → rec ≡ Begin
@@ -56,7 +56,7 @@ some_then : {X : Type 0} (o : Option X) (P Q : X → Type 0) → IfSome o P → 
 some_then None P Q p then = tt
 some_then (Some x) P Q p then = then x p
 
-all_stand : (first : ℕ) (recs : List LogRecord) (value : ℕ → ℕ → Option (List ℕ)) (ds : List Deed) → AreLogged first recs value ds → All (Stands first recs) ds
+pub all_stand : (first : ℕ) (recs : List LogRecord) (value : ℕ → ℕ → Option (List ℕ)) (ds : List Deed) → AreLogged first recs value ds → All (Stands first recs) ds
 all_stand first recs value [] logged = λ k d low. absurd (omega (arith, low))
 all_stand first recs value (d ∷ ds) logged = All-cons (Stands first recs) d ds
     (record {
@@ -66,15 +66,6 @@ all_stand first recs value (d ∷ ds) logged = All-cons (Stands first recs) d ds
       wrote = some_then d.write (λ w. Tells logged.0.rec w (value d.seat w.key)) _ logged.0.wrote (λ w tells. told_page logged.0.rec w (value d.seat w.key) tells);
     })
     (all_stand first recs (after d value) ds logged.1)
-
--- what holds of all deeds holds of those that pass a test
-all_filter : (P : Deed → Type 0) (test : Deed → Bool) (ds : List Deed) → All P ds → All P (filter test ds)
-all_filter P test [] all = all
-all_filter P test (d ∷ ds) all = by (test d) refl (all_filter P test ds (All-tail P d ds all))
-  where
-    by : (b : Bool) → test d ≡ b → All P (filter test ds) → All P (filter test (d ∷ ds))
-    by true is rest = rw is (All-cons P d (filter test ds) (All-head P d ds all) rest)
-    by false is rest = rw is rest
 
 -- ---- the writes among the deeds of a seat
 
@@ -170,7 +161,7 @@ module _ (s : Shape) (pool : List (Option (List ℕ))) (c : CacheState) (seats :
   writes_left =
       ap (λ n. numbers_back (filter (is_write_in t.seat) (m.pending n))) node
       ∙ ap numbers_back (filter_both t.seat (m.pending 1))
-      ∙ split (deeds_in t.seat (m.pending 1)) (was.deeds t.seat low ∙ ap (numbers_of first (p.live 1)) busy) (all_filter (Stands first (p.live 1)) (λ d. d.seat == t.seat) (m.pending 1) stand)
+      ∙ split (deeds_in t.seat (m.pending 1)) (was.deeds t.seat low ∙ ap (numbers_of first (p.live 1)) busy) (All-filter (λ d. d.seat == t.seat) (Stands first (p.live 1)) (m.pending 1) stand)
 
   -- what is left before a write of it
   pub left_parts : (earlier later : List Deed) (d : Deed) → writes_of m t ≡ earlier ++ d ∷ later → left ≡ numbers_back later ++ d.number ∷ numbers_back earlier
@@ -184,7 +175,7 @@ module _ (s : Shape) (pool : List (Option (List ℕ))) (c : CacheState) (seats :
   at_middle P (y ∷ ys) zs d all = at_middle P ys zs d (All-tail P y (ys ++ d ∷ zs) all)
 
   in_writes : (P : Deed → Type 0) (ys zs : List Deed) (d : Deed) → All P (m.pending t.node.0) → writes_of m t ≡ ys ++ d ∷ zs → P d
-  in_writes P ys zs d all are = at_middle P ys zs d (subst (All P) are (all_filter P (is_write_in t.seat) (m.pending t.node.0) all))
+  in_writes P ys zs d all are = at_middle P ys zs d (subst (All P) are (All-filter (is_write_in t.seat) P (m.pending t.node.0) all))
 
   module _ (shape : m.shape ≡ s) (pages : ArePages p m) where
     -- the write whose record was found
@@ -329,7 +320,7 @@ module _ (s : Shape) (pool : List (Option (List ℕ))) (c : CacheState) (seats :
       let maps : m.shape.maps ≡ s.maps = ap (λ (z : Shape). z.maps) shape in
       let ident : v.ident ≡ m.ident x.0 = ap (λ (o : PageView). o.ident) same ∙ pages.ident x.0 (omega (arith, far, maps)) (omega (arith, within, maps)) in
       let top = tops x.0 (omega (arith, far, maps)) (omega (arith, within, maps)) in
-      let all = all_both (Stands first (p.live 1)) (λ d. is_some d.write ≡ true) (filter (is_write_in t.seat) (m.pending 1)) (all_filter (Stands first (p.live 1)) (is_write_in t.seat) (m.pending 1) stand) (all_some (m.pending 1)) in
+      let all = all_both (Stands first (p.live 1)) (λ d. is_some d.write ≡ true) (filter (is_write_in t.seat) (m.pending 1)) (All-filter (is_write_in t.seat) (Stands first (p.live 1)) (m.pending 1) stand) (all_some (m.pending 1)) in
       let back : numbers_back (filter (is_write_in t.seat) (m.pending 1)) ≡ left = subst (λ n. numbers_back (filter (is_write_in t.seat) (m.pending n)) ≡ left) node writes_left in
       let counted : left_on u.begin first (p.live 1) x.0 ≡ count_by (writes_page x.0) (filter (is_write_in t.seat) (m.pending 1)) = ap (count_by (changes_page first (p.live 1) x.0)) (sym back) ∙ counted_back x.0 (filter (is_write_in t.seat) (m.pending 1)) all in
       let fewer = some_of x.0 (m.pending 1) in

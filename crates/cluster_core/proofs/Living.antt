@@ -6,13 +6,14 @@ use Rattle.std.proofs.lemmas.Bool.Decides.{nat_tests}
 use Rattle.std.proofs.lemmas.Option.{slice_get-get_or}
 use Rattle.sd_base.specs.declared.names.PageNo.{PageNo}
 use Rattle.sd_base.specs.declared.shape.Shape.{Shape}
+use Rattle.sd_base.specs.Places.{map_of_data, page_of_place, place_of_page}
+use Rattle.sd_base.proofs.PlaceLaws.{at_its_place, map_of_data-below, place_of_page-below}
 use Rattle.space_map.specs.declared.map_entry.MapEntry.TheVariants.{Free}
 use Rattle.space_map.specs.Entry.{ident_of}
 use Rattle.state_ids.specs.PageImage.{data_of, data_page, in_life, page_of, view_of}
 use Rattle.state_ids.specs.Blocks.{IsOfKind}
-use Rattle.node_cache.specs.Room.{map_of, place_in_map}
 use Rattle.node_cache.proofs.ChangeLaws.{present_by}
-use Rattle.record_machine.specs.Machine.{Machine, page_at}
+use Rattle.record_machine.specs.Machine.{Machine}
 use Rattle.record_machine.specs.Meaning.{ArePages, Plain}
 use Rattle.cluster_core.specs.Shows.{entry_in, image_in}
 use Rattle.cluster_core.proofs.ShownFetch.{AreLiving}
@@ -28,16 +29,16 @@ living s p m shape pages y within = by (nat_lt y.0 s.maps) refl
     maps = ap (λ t. t.maps) shape
 
     -- a data page is of the life that its entry has begun
-    alive : s.maps ≤ y.0 → in_life (slice_get (p.maps (map_of s y).0).entries (place_in_map s y)) (data_page (p.pages y.0)) ≡ data_page (p.pages y.0)
+    alive : s.maps ≤ y.0 → in_life (slice_get (p.maps (map_of_data s y).0).entries (place_of_page s y)) (data_page (p.pages y.0)) ≡ data_page (p.pages y.0)
     alive far =
-        let map : (map_of s y).0 < m.shape.maps = omega (arith, far, within, maps) in
-        let place : place_in_map s y < 252 = omega arith in
-        let here : page_at m (map_of s y).0 (place_in_map s y) ≡ y.0 = omega (arith, far, maps) in
-        let old = pages.alive (map_of s y).0 (place_in_map s y) map place in
-        let entry = pages.entries (map_of s y).0 map in
-        let count = pages.count (map_of s y).0 map in
-        let e = slice_index_or (m.entries (map_of s y).0) (place_in_map s y) (Free 0) in
-        let is : slice_get (p.maps (map_of s y).0).entries (place_in_map s y) ≡ Some e = ap (λ es. slice_get es (place_in_map s y)) entry ∙ slice_get-get_or (m.entries (map_of s y).0) (place_in_map s y) (Free 0) (omega (arith, place, count)) in
+        let map : (map_of_data s y).0 < m.shape.maps = omega (arith, map_of_data-below s y far within, maps) in
+        let place = place_of_page-below s y in
+        let here : page_of_place m.shape (map_of_data s y).0 (place_of_page s y) ≡ y.0 = ap (λ t. page_of_place t (map_of_data s y).0 (place_of_page s y)) shape ∙ at_its_place s y far in
+        let old = pages.alive (map_of_data s y).0 (place_of_page s y) map place in
+        let entry = pages.entries (map_of_data s y).0 map in
+        let count = pages.count (map_of_data s y).0 map in
+        let e = slice_index_or (m.entries (map_of_data s y).0) (place_of_page s y) (Free 0) in
+        let is : slice_get (p.maps (map_of_data s y).0).entries (place_of_page s y) ≡ Some e = ap (λ es. slice_get es (place_of_page s y)) entry ∙ slice_get-get_or (m.entries (map_of_data s y).0) (place_of_page s y) (Free 0) (omega (arith, place, count)) in
         let high : ident_of e ≤ (p.pages y.0).ident = subst (λ n. ident_of e ≤ (p.pages n).ident) here old in
         ap (λ o. in_life o (data_page (p.pages y.0))) is ∙ ap (λ d. data_page (view_of (p.pages y.0).page d)) (present_by (data_of (p.pages y.0)) (ident_of e) high)
 

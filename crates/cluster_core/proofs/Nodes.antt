@@ -1,6 +1,6 @@
 -- What a node of a cluster is, by what it is doing.
-use Rattle.std.specs.Prelude.{◌≡◌, ◌⊎◌, ◌≤◌, ℕ, List, [], ◌∷◌, Option, length, replicate, slice_set, refl}
-use Rattle.std.proofs.Common.{arith, inl, inr, ap, subst, sym, ◌∙◌, length-set}
+use Rattle.std.specs.Prelude.{◌≡◌, ◌⊎◌, ◌≤◌, ℕ, List, Option, length, replicate}
+use Rattle.std.proofs.Common.{arith, inl, inr, ap, subst, sym, ◌∙◌}
 use Rattle.std.proofs.lemmas.Bool.{cases_lt}
 use Rattle.std.proofs.lemmas.List.{get_or-replicate, length-replicate}
 use Rattle.std.proofs.Math.ListN.{get_or-eq_default}
@@ -8,26 +8,20 @@ use Rattle.sd_base.specs.Shape.{IsShape, page_count}
 use Rattle.sd_base.specs.declared.shape.Shape.{Shape}
 use Rattle.frame_pool.specs.Frames.{free_count}
 use Rattle.page_owner.specs.declared.owners.Own.{Own}
-use Rattle.page_owner.specs.declared.owners.Own.TheVariants.{Nobody, Parked}
+use Rattle.page_owner.specs.declared.owners.Own.TheVariants.{Nobody}
 use Rattle.page_owner.specs.Owners.{owner_of}
-use Rattle.node_cache.specs.Cache.{AreOut, CachedPage, CacheState}
-use Rattle.node_cache.specs.Room.{parked}
+use Rattle.node_cache.specs.Cache.{AreOut, CacheState}
 use Rattle.txn_core.specs.Seats.{SeatsState}
-use Rattle.txn_core.proofs.CompensationLaws.{out_of_shown}
 use Rattle.cluster_core.specs.declared.node.Node.{Node}
 use Rattle.cluster_core.specs.declared.node.Node.TheVariants.{Down, Idle, Up}
 use Rattle.cluster_core.specs.Cluster.{IsAtRest, IsAtWork, IsCluster, IsNode}
+use Rattle.node_cache.proofs.ChangedPages.{out_of_shown}
 
 pub at_work : (s : Shape) (pool : List (Option (List ℕ))) (owners : List Own) (node : Node) (c : CacheState) (seats : SeatsState) → node ≡ Up c seats → IsCluster s pool owners node → IsAtWork s pool owners c seats
 at_work s pool owners node c seats up is = subst (IsNode s pool owners) up is.is
 
 pub out_at_work : (s : Shape) (pool : List (Option (List ℕ))) (owners : List Own) (c : CacheState) (seats : SeatsState) → IsAtWork s pool owners c seats → AreOut pool c
 out_at_work s pool owners c seats work = out_of_shown s pool c work.shown
-
--- the table of owners is as long as it was
-pub length-parked : (pages : List CachedPage) (owners : List Own) → length (parked pages owners) ≡ length owners
-length-parked [] owners = refl
-length-parked (p ∷ pages) owners = length-parked pages (slice_set owners p.ticket.page.0 (Parked p.ticket.node)) ∙ length-set owners _ _
 
 all_nobody : (n x : ℕ) → owner_of (replicate n Nobody) x ≡ Nobody
 all_nobody n x = elim (cases_lt x n) [

@@ -19,9 +19,9 @@ use Rattle.state_ids.specs.PageImage.{IsText}
 use Rattle.record_machine.specs.Machine.{formatted}
 use Rattle.record_machine.specs.Meaning.{born}
 use Rattle.record_machine.proofs.FormattedLaws.{means_formatted}
+use Rattle.store_format.specs.Device.{NarrowsAt}
+use Rattle.store_format.specs.Formatted.{IsBornDisk}
 use Rattle.cluster_core.specs.declared.node.Node.TheVariants.{Idle}
-use Rattle.cluster_core.specs.Device.{NarrowsAt}
-use Rattle.cluster_core.specs.Formatted.{IsBornDisk}
 use Rattle.cluster_core.specs.Shows.{IsOnDisk, ShowsIdle, ShowsStore, image_in}
 use Rattle.cluster_core.proofs.Living.{living}
 

@@ -15,10 +15,10 @@ use Rattle.private_log.specs.Log.{IsLogOn, LogState, SameLog, space}
 use Rattle.node_cache.specs.Cache.{CachedPage, CacheState, Changes, IsInLog, IsTiedToLog, changed_by, is_page, page_at, with_change, with_page}
 use Rattle.txn_core.specs.Seats.{AreTied, OpenTxn, SeatsState, owed}
 use Rattle.txn_core.specs.Told.{AreTold, HasRecords, IsOpenIn}
-use Rattle.txn_core.proofs.CompensationLaws.{find_all}
 use Rattle.txn_core.proofs.SeatLaws.{all_longer, legal_more, space_less}
 use Rattle.txn_core.proofs.ToldLaws.{names-push, open-other}
 use Rattle.txn_core.proofs.UpdateLaws.{page_with}
+use Rattle.sd_base.proofs.Positions.{find_all}
 
 -- the record is neither an update nor a compensation
 abbrev pub IsOfNone : LogRecord → Type 0

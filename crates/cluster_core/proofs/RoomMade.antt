@@ -12,15 +12,16 @@ use Rattle.sd_base.specs.Disk.{BlockState}
 use Rattle.sd_base.specs.Shape.{page_count}
 use Rattle.sd_base.specs.declared.names.PageNo.{PageNo}
 use Rattle.sd_base.specs.declared.shape.Shape.{Shape}
+use Rattle.sd_base.specs.Places.{map_of_data}
 use Rattle.private_log.specs.Frames.{KeepsContents}
 use Rattle.state_ids.specs.Blocks.{page_place}
 use Rattle.private_log.specs.Log.{next_place}
 use Rattle.space_map.specs.declared.map_entry.MapEntry.{MapEntry}
 use Rattle.node_cache.specs.Cache.{CachedPage, CacheState, IsOfStore, IsTiedToLog, changed_by, is_cached, is_page, page_at, with_page}
-use Rattle.node_cache.specs.Room.{Arrived, leaving, map_of, may_go, staying}
+use Rattle.node_cache.specs.Room.{Arrived, leaving, may_go, staying}
 use Rattle.node_cache.specs.Writes.{KeepsContentsButPages}
 use Rattle.node_cache.proofs.Arriving.{none_is, not_found}
-use Rattle.node_cache.proofs.Finding.{all_at, not_placed, placed}
+use Rattle.node_cache.proofs.Finding.{all_at}
 use Rattle.node_cache.proofs.Leaving.{Leaves, all_stay, none_leaves, one_leaves, who_leaves}
 use Rattle.node_cache.proofs.OnePage.{found}
 use Rattle.node_cache.proofs.RoomLaws.{same_content}
@@ -33,12 +34,13 @@ use Rattle.cluster_core.specs.Cluster.{ClusterState}
 use Rattle.cluster_core.specs.Footprint.{HasCached, IsFull, KeepsPage, KeepsCache, MadeRoom, MakesRoomAlone}
 use Rattle.cluster_core.specs.Ports.{OnUp}
 use Rattle.cluster_core.proofs.MapStays.{goes_apart}
+use Rattle.sd_base.proofs.Positions.{not_placed, placed}
 
 -- what a fetch of x leaves of a cache and of the pages' blocks
 pub record CacheRoom (s : Shape) (x : PageNo) (c d : CacheState) (a b : ℕ → BlockState) : Type 0 where
   pub came : (y : PageNo) → IsTrue (is_cached y d) → (y ≡ x) ⊎ IsTrue (is_cached y c)
   pub full : length c.pages ≡ 16 → length d.pages ≡ 16
-  pub room : (y : PageNo) → y.0 < page_count s → KeepsPage s y a b ⊎ (IsTrue (is_cached y c) × (length d.pages ≡ 16) × (s.maps ≤ x.0 → y ≢ map_of s x))
+  pub room : (y : PageNo) → y.0 < page_count s → KeepsPage s y a b ⊎ (IsTrue (is_cached y c) × (length d.pages ≡ 16) × (s.maps ≤ x.0 → y ≢ map_of_data s x))
 
 pub room_hit : (s : Shape) (x : PageNo) (c : CacheState) (a : ℕ → BlockState) → CacheRoom s x c c a a
 room_hit s x c a = record { came = λ y has. inr has; full = λ full. full; room = λ y low. inl refl }
@@ -77,7 +79,7 @@ module _ (s : Shape) (x : PageNo) (e : Option MapEntry) (c d : CacheState) (pool
   ]
 
   abbrev Room : PageNo → Type 0
-  Room y = KeepsPage s y a b ⊎ (IsTrue (is_cached y c) × (length d.pages ≡ 16) × (s.maps ≤ x.0 → y ≢ map_of s x))
+  Room y = KeepsPage s y a b ⊎ (IsTrue (is_cached y c) × (length d.pages ≡ 16) × (s.maps ≤ x.0 → y ≢ map_of_data s x))
 
   keeps_page : (y : PageNo) → All (λ q. q.ticket.page ≢ y) (leaving s x c.pages) → Room y
   keeps_page y others = inl (same_content s c (leaving s x c.pages) y a b store tie others keeps)
@@ -119,7 +121,7 @@ made_room x c d s k j old now a b shape was is room = record {
   full = λ full. subst (λ n. OnUp n (λ q seats. length q.pages ≡ 16)) (sym is) (room.full (subst (λ n. OnUp n (λ q seats. length q.pages ≡ 16)) was full));
   room = λ y low. elim (room.room y (subst (λ t. y.0 < page_count t) shape low)) [
     | inl same ↦ inl (subst (λ t. KeepsPage t y a b) (sym shape) same)
-    | inr made ↦ inr (before y made.0, subst (λ n. OnUp n (λ q seats. length q.pages ≡ 16)) (sym is) made.1, subst (λ t. t.maps ≤ x.0 → y ≢ map_of t x) (sym shape) made.2)
+    | inr made ↦ inr (before y made.0, subst (λ n. OnUp n (λ q seats. length q.pages ≡ 16)) (sym is) made.1, subst (λ t. t.maps ≤ x.0 → y ≢ map_of_data t x) (sym shape) made.2)
   ];
 }
   where
@@ -135,10 +137,10 @@ pub room_alone : (x : PageNo) (c d : ClusterState) (a b : ℕ → BlockState) �
 room_alone x c d a b made = λ y low. elim (made.room y low) [ inl same ↦ inl same | inr room ↦ inr (room.0, room.1) ]
 
 -- a data page behind its map page
-pub room_both : (map x : PageNo) (c m d : ClusterState) (a b e : ℕ → BlockState) → m.shape ≡ c.shape → c.shape.maps ≤ x.0 → map_of c.shape x ≡ map → MadeRoom map c m a b → MadeRoom x m d b e → MakesRoomAlone c d a e
-room_both map x c m d a b e shape far is first next = λ y low. by y (first.room y low) (subst (λ s. KeepsPage s y b e ⊎ (HasCached m y × IsFull d × (s.maps ≤ x.0 → y ≢ map_of s x))) shape (next.room y (subst (λ s. y.0 < page_count s) (sym shape) low)))
+pub room_both : (map x : PageNo) (c m d : ClusterState) (a b e : ℕ → BlockState) → m.shape ≡ c.shape → c.shape.maps ≤ x.0 → map_of_data c.shape x ≡ map → MadeRoom map c m a b → MadeRoom x m d b e → MakesRoomAlone c d a e
+room_both map x c m d a b e shape far is first next = λ y low. by y (first.room y low) (subst (λ s. KeepsPage s y b e ⊎ (HasCached m y × IsFull d × (s.maps ≤ x.0 → y ≢ map_of_data s x))) shape (next.room y (subst (λ s. y.0 < page_count s) (sym shape) low)))
   where
-    by : (y : PageNo) → KeepsPage c.shape y a b ⊎ (HasCached c y × IsFull m × (c.shape.maps ≤ map.0 → y ≢ map_of c.shape map)) → KeepsPage c.shape y b e ⊎ (HasCached m y × IsFull d × (c.shape.maps ≤ x.0 → y ≢ map_of c.shape x)) → KeepsPage c.shape y a e ⊎ (HasCached c y × IsFull d)
+    by : (y : PageNo) → KeepsPage c.shape y a b ⊎ (HasCached c y × IsFull m × (c.shape.maps ≤ map.0 → y ≢ map_of_data c.shape map)) → KeepsPage c.shape y b e ⊎ (HasCached m y × IsFull d × (c.shape.maps ≤ x.0 → y ≢ map_of_data c.shape x)) → KeepsPage c.shape y a e ⊎ (HasCached c y × IsFull d)
     by y (inr room) other = inr (room.0, next.full room.1)
     by y (inl same) (inl too) = inl (too ∙ same)
     by y (inl same) (inr room) = elim (first.came y room.0) [
@@ -162,7 +164,7 @@ made_then x c m d a b e shape made kept = record {
   room = λ y low. by y (made.room y low) (subst (λ s. KeepsPage s y b e) shape (kept.pages y (subst (λ s. y.0 < page_count s) (sym shape) low)));
 }
   where
-    by : (y : PageNo) → KeepsPage c.shape y a b ⊎ (HasCached c y × IsFull m × (c.shape.maps ≤ x.0 → y ≢ map_of c.shape x)) → KeepsPage c.shape y b e → KeepsPage c.shape y a e ⊎ (HasCached c y × IsFull d × (c.shape.maps ≤ x.0 → y ≢ map_of c.shape x))
+    by : (y : PageNo) → KeepsPage c.shape y a b ⊎ (HasCached c y × IsFull m × (c.shape.maps ≤ x.0 → y ≢ map_of_data c.shape x)) → KeepsPage c.shape y b e → KeepsPage c.shape y a e ⊎ (HasCached c y × IsFull d × (c.shape.maps ≤ x.0 → y ≢ map_of_data c.shape x))
     by y (inl same) still = inl (still ∙ same)
     by y (inr room) still = inr (room.0, kept.full room.1, room.2)
 

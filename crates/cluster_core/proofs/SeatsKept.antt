@@ -6,7 +6,7 @@ use Rattle.cluster_core.specs.declared.node.Node.{Node}
 use Rattle.cluster_core.specs.declared.node.Node.TheVariants.{Idle, Up, Down}
 use Rattle.cluster_core.specs.Changes.{KeepsSeats, LeavesLess}
 use Rattle.cluster_core.specs.Ports.{OnUp, is_up}
-use Rattle.cluster_core.proofs.ShownUpdate.{busy_txn}
+use Rattle.txn_core.proofs.SeatLaws.{txn_of}
 
 -- what is said of them is said of them still
 pub seats_still : (a b : Node) (P : SeatsState → Type 0) → is_up a ≡ true → KeepsSeats a b → OnUp a (λ c seats. P seats) → OnUp b (λ c seats. P seats)
@@ -46,8 +46,8 @@ pub left_less : (a b : Node) (seat : ℕ) → is_up a ≡ true → is_up b ≡ t
 left_less Idle b seat up after busy still less = let never : false ≡ true = up in cc
 left_less (Up c seats) Idle seat up after busy still less = let never : false ≡ true = after in cc
 left_less (Up c seats) (Up d new) seat up after busy still less =
-    let t = busy_txn seats seat busy in
-    let u = busy_txn new seat still in
+    let t = txn_of seats seat busy in
+    let u = txn_of new seat still in
     let one = less t.0 u.0 t.1 u.1 in
     subst (λ o. left_of o < left_of (txn_in seats seat)) (sym u.1) (subst (λ o. u.0.left < left_of o) (sym t.1) (omega (arith, one)))
 left_less (Up c seats) Down seat up after busy still less = let never : false ≡ true = after in cc

@@ -1,5 +1,5 @@
 -- What a cluster shows after a transaction has taken its newest update back.
-use Rattle.std.specs.Prelude.{◌≡◌, ◌≢◌, ◌==◌, ◌+◌, ◌-◌, ◌*◌, ◌%◌, ◌^◌, ◌<◌, ◌≤◌, ◌++◌, ◌∷◌, [], ℕ, Bool, true, false, List, Option, Some, None, IsTrue, All, AllPairs, IfSome, filter, is_some, length, map, reverse, slice_index_or, slice_set, take, unwrap_or, refl}
+use Rattle.std.specs.Prelude.{◌≡◌, ◌≢◌, ◌==◌, ◌+◌, ◌-◌, ◌*◌, ◌^◌, ◌<◌, ◌≤◌, ◌++◌, ◌∷◌, [], ℕ, Bool, true, false, List, Option, Some, None, IsTrue, All, AllPairs, IfSome, filter, is_some, length, map, reverse, slice_index_or, slice_set, take, unwrap_or, refl}
 use Rattle.std.proofs.Common.{arith, inl, inr, ap, subst, sym, ◌∙◌}
 use Rattle.std.proofs.lemmas.Bool.{cases_eq}
 use Rattle.std.proofs.lemmas.Bool.Decides.{nat_tests}
@@ -26,6 +26,7 @@ use Rattle.private_log.specs.Log.{SameLog, next_place}
 use Rattle.record_locks.specs.declared.mode.Mode.TheVariants as locks
 use Rattle.record_locks.specs.Held.{mode_of}
 use Rattle.sd_base.specs.declared.names.Key.{Key}
+use Rattle.sd_base.specs.Places.{slot_of_key}
 use Rattle.state_ids.specs.Held.{Shows}
 use Rattle.state_ids.specs.PageImage.{data_page}
 use Rattle.node_cache.specs.Cache.{AreShown, CacheState, changed_by, is_cached, page_at}
@@ -35,8 +36,8 @@ use Rattle.txn_core.specs.Told.{AreTold, HasRecords, IsOpenIn}
 use Rattle.txn_core.specs.Undo.{IsToUndo, TakesBack, compensation_of}
 use Rattle.txn_core.specs.Updates.{ChangesPage, HasPage}
 use Rattle.txn_core.proofs.CompensationLaws.{data_cached}
-use Rattle.txn_core.proofs.TakeBackLaws.{back_of_update, next_told, not_another, to_undo_own}
-use Rattle.txn_core.proofs.UndoLaws.{seat_told}
+use Rattle.txn_core.proofs.TakeBackLaws.{back_of_update, next_told, not_another}
+use Rattle.txn_core.proofs.UndoLaws.{newest_update, seat_told}
 use Rattle.txn_core.proofs.UpdateLaws.{apart_at}
 use Rattle.record_machine.specs.Machine.{Deed, Machine, Write, is_write_in, newest_of, put, seen, without_newest}
 use Rattle.record_machine.specs.Meaning.{IsChangedAt, Means, Plain, Tells, first_record, logged, with_page}
@@ -69,16 +70,16 @@ cut_slot v slot true len (Some old) bytes mark held low =
 cut_slot v slot false len (Some old) bytes mark held low = cc
 
 -- The slot holds what the write left, whose log record says what it held before: that is put back.
-pub slot_back : (rec : LogRecord) (w : Write) (before : Option (List ℕ)) (v : PageView) (op : PageOp) → Tells rec w before → taking_back rec ≡ Some op → content v (w.key % 16) ≡ w.value → w.key % 16 < length v.slots → IsChangedAt (w.key % 16) before v (applied op v)
+pub slot_back : (rec : LogRecord) (w : Write) (before : Option (List ℕ)) (v : PageView) (op : PageOp) → Tells rec w before → taking_back rec ≡ Some op → content v (slot_of_key w.key) ≡ w.value → slot_of_key w.key < length v.slots → IsChangedAt (slot_of_key w.key) before v (applied op v)
 slot_back Begin w before v op tells back held low = absurd tells
 slot_back (Set txn prev page bsi slot old after) w before v op tells back held low =
     let same : ops.Put slot old ≡ op = cc in
-    subst (λ o. IsChangedAt (w.key % 16) before v (applied o v)) same
-    (subst (λ k. IsChangedAt (w.key % 16) before v (with_put k old v)) (sym tells.1) (subst (λ o. IsChangedAt (w.key % 16) before v (with_put (w.key % 16) o v)) (sym tells.2) (put_slot v (w.key % 16) before low)))
+    subst (λ o. IsChangedAt (slot_of_key w.key) before v (applied o v)) same
+    (subst (λ k. IsChangedAt (slot_of_key w.key) before v (with_put k old v)) (sym tells.1) (subst (λ o. IsChangedAt (slot_of_key w.key) before v (with_put (slot_of_key w.key) o v)) (sym tells.2) (put_slot v (slot_of_key w.key) before low)))
 slot_back (Append txn prev page bsi slot present len bytes) w before v op tells back held low =
     let same : ops.Cut slot present len ≡ op = cc in
-    subst (λ o. IsChangedAt (w.key % 16) before v (applied o v)) same
-    (subst (λ k. IsChangedAt (w.key % 16) before v (with_cut k present len v)) (sym tells.1) (cut_slot v (w.key % 16) present len before bytes tells.2 (held ∙ tells.3) low))
+    subst (λ o. IsChangedAt (slot_of_key w.key) before v (applied o v)) same
+    (subst (λ k. IsChangedAt (slot_of_key w.key) before v (with_cut k present len v)) (sym tells.1) (cut_slot v (slot_of_key w.key) present len before bytes tells.2 (held ∙ tells.3) low))
 slot_back (Commit txn prev) w before v op tells back held low = absurd tells
 slot_back (Abort txn prev) w before v op tells back held low = absurd tells
 slot_back (Restore txn prev next page bsi slot after) w before v op tells back held low = absurd tells
@@ -166,7 +167,7 @@ module _ (s : Shape) (pool new : List (Option (List ℕ))) (owners : List Own) (
           ap (λ es. reverse (map (λ (f : Deed). f.number) es)) (sym (filter_both t.seat (m.pending 1)) ∙ ap (λ n. filter (is_write_in t.seat) (m.pending n)) (sym one_node))
           ∙ writes_left s pool c seats b p m t u was means.logs one_node (omega (arith, low)) busy
 
-  range : (m.shape.maps ≤ w.page) × (w.page < 253 * m.shape.maps)
+  range : (m.shape.maps ≤ w.page) × (w.page < page_count m.shape)
   range = home_is_data p m w.key w.page means.pages (back_home p m t e w is write means.logs)
 
   number : (p.pages x.0).page ≡ x
@@ -193,7 +194,7 @@ module _ (s : Shape) (pool new : List (Option (List ℕ))) (owners : List Own) (
   pub back : (rec : LogRecord) × TakesBack pool c.pages first (p.live 1) u (p.pages x.0) rec
   unfolding undo
   back =
-      let rec = back_of_update u (next_behind u.begin first (p.live 1) stands.0) (p.pages x.0).ident stands.0 (to_undo_own u first (p.live 1) e.number stands.0 own (ap newest deeds.1) stands.1) in
+      let rec = back_of_update u (next_behind u.begin first (p.live 1) stands.0) (p.pages x.0).ident stands.0 (newest_update u first (p.live 1) e.number stands.0 own (ap newest deeds.1) stands.1) in
       (rec.0, record { undo = undo; is = rec.1 })
 
   same_update : back.1.undo.update ≡ stands.0
@@ -201,15 +202,15 @@ module _ (s : Shape) (pool new : List (Option (List ℕ))) (owners : List Own) (
   same_update = refl
 
   -- what is left of the slot is what the transaction saw before it
-  slot : (op : PageOp) → taking_back back.1.undo.update ≡ Some op → IsChangedAt (w.key % 16) (seen (one (Back t) m) t w.key) (p.pages w.page) (applied op (p.pages x.0))
+  slot : (op : PageOp) → taking_back back.1.undo.update ≡ Some op → IsChangedAt (slot_of_key w.key) (seen (one (Back t) m) t w.key) (p.pages w.page) (applied op (p.pages x.0))
   slot op taken =
       let key : Key = record { 0 = w.key } in
       let lock : mode_of m.locks key t ≡ Some locks.Write = means.locked.written t key (written_it t.seat (m.pending t.node.0) e w (newest_is t.seat (m.pending t.node.0) e is) write) in
-      let held : content (p.pages w.page) (w.key % 16) ≡ w.value = seen_locked p m key w.page t locks.Write means.locked means.pages (back_home p m t e w is write means.logs) lock ∙ newest_seen m t e w is write in
+      let held : content (p.pages w.page) (slot_of_key w.key) ≡ w.value = seen_locked p m key w.page t locks.Write means.locked means.pages (back_home p m t e w is write means.logs) lock ∙ newest_seen m t e w is write in
       let count = has.shows.text.image.slots in
       let before = subst (λ k. Tells stands.0 w (seen k t w.key)) (sym (back_is m t e w is write)) stands.2 in
-      subst (λ n. IsChangedAt (w.key % 16) (seen (one (Back t) m) t w.key) (p.pages n) (applied op (p.pages x.0))) at
-      (slot_back stands.0 w (seen (one (Back t) m) t w.key) (p.pages x.0) op before (ap taking_back (sym same_update) ∙ taken) (subst (λ n. content (p.pages n) (w.key % 16) ≡ w.value) (sym at) held) (omega (arith, count)))
+      subst (λ n. IsChangedAt (slot_of_key w.key) (seen (one (Back t) m) t w.key) (p.pages n) (applied op (p.pages x.0))) at
+      (slot_back stands.0 w (seen (one (Back t) m) t w.key) (p.pages x.0) op before (ap taking_back (sym same_update) ∙ taken) (subst (λ n. content (p.pages n) (slot_of_key w.key) ≡ w.value) (sym at) held) (omega (arith, count)))
 
   pub means_taken_back : (op : PageOp) → taking_back back.1.undo.update ≡ Some op → Means (logged 1 back.0 (with_page x.0 (applied op (p.pages x.0)) p)) (one (Back t) m)
   means_taken_back op taken =

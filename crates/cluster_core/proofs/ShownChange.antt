@@ -25,8 +25,8 @@ use Rattle.record_machine.specs.Machine.{Deed, Machine}
 use Rattle.record_machine.specs.Meaning.{Plain, logged}
 use Rattle.cluster_core.specs.Shows.{IsOnDisk, ShowsUp, deeds_in, entry_in, image_in, numbers_of}
 use Rattle.cluster_core.proofs.Logging.{stored_beside}
-use Rattle.cluster_core.proofs.PageChanged.{frames_beside, other_page, page_beside}
 use Rattle.cluster_core.proofs.ShownFetch.{has_more}
+use Rattle.node_cache.proofs.ChangedPages.{frames_beside, other_page, page_beside}
 
 -- Of the pages of a store only x is another one, and each entry has begun the same life.
 pub record OnlyPage (s : Shape) (old new : Plain) (x : PageNo) : Type 0 where

@@ -1,5 +1,5 @@
 -- What a cluster shows after a transaction was ended, committed or given up.
-use Rattle.std.specs.Prelude.{◌≡◌, ◌≢◌, ◌==◌, ◌*◌, ◌<◌, ◌≤◌, ◌++◌, ◌∷◌, [], ℕ, Bool, true, false, not, List, Option, Some, None, All, IfSome, IsTrue, is_some, filter, length, map, slice_index_or, slice_set, refl}
+use Rattle.std.specs.Prelude.{◌≡◌, ◌≢◌, ◌==◌, ◌*◌, ◌<◌, ◌≤◌, ◌++◌, ◌∷◌, [], ℕ, Bool, true, false, not, List, Option, Some, None, All, IfSome, filter, length, map, slice_index_or, slice_set, refl}
 use Rattle.std.proofs.Common.{arith, inl, inr, ap, subst, sym, ◌∙◌}
 use Rattle.std.proofs.lemmas.Bool.{cases_eq}
 use Rattle.std.proofs.lemmas.Bool.Decides.{nat_tests}
@@ -13,7 +13,7 @@ use Rattle.private_log.specs.Frames.{NarrowsBeside}
 use Rattle.private_log.specs.Log.{SameLog, next_place}
 use Rattle.compensation.specs.Left.{is_update_of, next_after}
 use Rattle.node_cache.specs.Cache.{CacheState, IsOfStore, IsTiedToLog}
-use Rattle.txn_core.specs.Seats.{OpenTxn, SeatsState, is_busy, txn_in}
+use Rattle.txn_core.specs.Seats.{OpenTxn, SeatsState, txn_in}
 use Rattle.txn_core.specs.Told.{AreTold, HasRecords}
 use Rattle.record_machine.specs.Machine.{Deed, Machine, put}
 use Rattle.record_machine.specs.Meaning.{Plain, logged}
@@ -45,14 +45,6 @@ deeds_stay seat other (d ∷ ds) apart = by (d.seat == seat) (d.seat == other) r
     by true false mine its rest = rw mine (rw its rest)
     by false true mine its rest = rw mine (rw its (ap (λ es. d ∷ es) rest))
     by false false mine its rest = rw mine (rw its rest)
-
--- the transaction in a busy seat
-pub txn_of : (seats : SeatsState) (seat : ℕ) → IsTrue (is_busy seats seat) → (txn : OpenTxn) × (txn_in seats seat ≡ Some txn)
-txn_of seats seat busy = by (txn_in seats seat) refl busy
-  where
-    by : (o : Option OpenTxn) → txn_in seats seat ≡ o → IsTrue (is_some o) → (txn : OpenTxn) × (txn_in seats seat ≡ Some txn)
-    by None is some = cc
-    by (Some txn) is some = (txn, is)
 
 module _ (s : Shape) (pool : List (Option (List ℕ))) (c d : CacheState) (seats after : SeatsState) (b b' : ℕ → BlockState) (p : Plain) (m : Machine) (t : TxnId) (rec : LogRecord) (alone : (k : ℕ) → (is_update_of k rec ≡ false) × (next_after k rec ≡ None)) where
   -- the numbers of each seat's records

@@ -14,6 +14,8 @@ use Rattle.sd_base.specs.Shape.{page_count}
 use Rattle.sd_base.specs.declared.device.NodeId.{NodeId}
 use Rattle.sd_base.specs.declared.names.PageNo.{PageNo}
 use Rattle.sd_base.specs.declared.shape.Shape.{Shape}
+use Rattle.sd_base.specs.Places.{map_of_data, place_of_page}
+use Rattle.sd_base.proofs.PlaceLaws.{map_of_data-below}
 use Rattle.frame_pool.specs.Frames.{IsOut, frame_at}
 use Rattle.space_map.specs.declared.map_entry.MapEntry.{MapEntry}
 use Rattle.space_map.specs.Entry.{ident_of}
@@ -25,7 +27,7 @@ use Rattle.state_ids.specs.Held.{Shows}
 use Rattle.state_ids.specs.Blocks.{HoldsPage, IsOfKind, page_place}
 use Rattle.node_cache.specs.Cache.{AreOut, CachedPage, CacheState, Changes, IsCache, IsOfStore, IsTiedToLog, first_change, is_cached, is_changed, is_page, page_at}
 use Rattle.node_cache.specs.Writes.{HoldsPages, NarrowsButPages}
-use Rattle.node_cache.specs.Room.{Arrived, IsEntryOf, freed, leaving, map_of, place_in_map, staying}
+use Rattle.node_cache.specs.Room.{Arrived, IsEntryOf, freed, leaving, staying}
 use Rattle.node_cache.proofs.Arriving.{found_last, none_is, not_found}
 use Rattle.node_cache.proofs.DiskTie.{not_in_ring}
 use Rattle.node_cache.proofs.Leaving.{all_left, all_stay, who_leaves}
@@ -33,13 +35,13 @@ use Rattle.node_cache.proofs.OnePage.{found, head_pairs, is_page-other, is_page-
 use Rattle.node_cache.proofs.PageWrites.{one_place}
 use Rattle.node_cache.proofs.Without.{others_apart, shows_same}
 use Rattle.private_log.specs.Log.{IsLogOn, SameLog}
-use Rattle.txn_core.proofs.CompensationLaws.{find_all}
 use Rattle.txn_core.specs.Seats.{SeatsState, txn_in}
 use Rattle.txn_core.specs.Told.{AreTold}
 use Rattle.record_machine.specs.Machine.{Machine}
 use Rattle.record_machine.specs.Meaning.{Plain}
 use Rattle.record_machine.specs.Parts.{Take, one}
 use Rattle.cluster_core.specs.Shows.{IsOnDisk, ShowsUp, deeds_in, entry_in, image_in, numbers_of}
+use Rattle.sd_base.proofs.Positions.{find_all}
 
 -- ---- the frames of the pages that stay
 
@@ -88,11 +90,11 @@ entry_shown s p pool c x e within shown is = by (nat_lt x.0 s.maps) refl
     by false high =
         let map = is.some (grind (arith, nat_tests)) in
         let q = map.0 in
-        let same : q.ticket.page ≡ map_of s x = is_page-same (map_of s x) q (found (is_page (map_of s x)) c.pages q map.2) in
-        let low : nat_lt (map_of s x).0 s.maps ≡ true = (let far : s.maps ≤ x.0 = grind (arith, nat_tests) in let lt : (map_of s x).0 < s.maps = omega (arith, within, far) in grind (arith, nat_tests)) in
-        let here : Shows pool q.frame (map_page (p.maps (map_of s x).0)) = subst (λ b. Shows pool q.frame (if b then map_page (p.maps (map_of s x).0) else data_page (p.pages (map_of s x).0))) low (subst (λ y. Shows pool q.frame (image_in s p y)) same (find_all (λ r. Shows pool r.frame (image_in s p r.ticket.page)) (is_page (map_of s x)) c.pages q map.2 shown)) in
-        let one : map.1.entries ≡ (p.maps (map_of s x).0).entries = same_entries pool q.frame map.1 (p.maps (map_of s x).0) map.3 here in
-        map.4 ∙ ap (λ es. slice_get es (place_in_map s x)) one ∙ rw high refl
+        let same : q.ticket.page ≡ map_of_data s x = is_page-same (map_of_data s x) q (found (is_page (map_of_data s x)) c.pages q map.2) in
+        let low : nat_lt (map_of_data s x).0 s.maps ≡ true = (let far : s.maps ≤ x.0 = grind (arith, nat_tests) in let lt = map_of_data-below s x far within in grind (arith, nat_tests)) in
+        let here : Shows pool q.frame (map_page (p.maps (map_of_data s x).0)) = subst (λ b. Shows pool q.frame (if b then map_page (p.maps (map_of_data s x).0) else data_page (p.pages (map_of_data s x).0))) low (subst (λ y. Shows pool q.frame (image_in s p y)) same (find_all (λ r. Shows pool r.frame (image_in s p r.ticket.page)) (is_page (map_of_data s x)) c.pages q map.2 shown)) in
+        let one : map.1.entries ≡ (p.maps (map_of_data s x).0).entries = same_entries pool q.frame map.1 (p.maps (map_of_data s x).0) map.3 here in
+        map.4 ∙ ap (λ es. slice_get es (place_of_page s x)) one ∙ rw high refl
 
 -- ---- the pages that the cache hasn't changed
 

@@ -1,15 +1,17 @@
 -- What a cluster shows doesn't hang on who holds the pages.
-use Rattle.std.specs.Prelude.{◌≡◌, ◌-◌, ◌/◌, ◌++◌, ◌∷◌, [], ℕ, List, Option, Some, None, Result, Ok, Err, IfErr, IfOk, refl}
+use Rattle.std.specs.Prelude.{◌≡◌, ◌∷◌, [], ℕ, List, Option, Some, None, Result, Ok, Err, IfErr, IfOk, refl}
 use Rattle.std.specs.List.{flat_map}
 use Rattle.std.proofs.Common.{subst, sym}
 use Rattle.sd_base.specs.Disk.{BlockState}
+use Rattle.sd_base.specs.Places.{map_of_data}
 use Rattle.node_cache.specs.Cache.{CacheState}
 use Rattle.txn_core.specs.Seats.{SeatsState}
 use Rattle.record_machine.specs.Machine.{Deed, Machine, Write}
 use Rattle.record_machine.specs.Meaning.{Means, Plain}
-use Rattle.record_machine.specs.Parts.{Part, Take, dos, one}
+use Rattle.record_machine.specs.Parts.{Take, dos, one}
 use Rattle.record_machine.specs.Commands.{takes_written}
 use Rattle.record_machine.proofs.LockSteps.{means_taken}
+use Rattle.record_machine.proofs.Steps.{dos-then}
 use Rattle.cluster_core.specs.declared.node.Node.{Node}
 use Rattle.cluster_core.specs.declared.node.Node.TheVariants.{Idle, Up, Down}
 use Rattle.cluster_core.specs.Cluster.{ClusterState}
@@ -56,10 +58,6 @@ taken c b m x n was = (was.0, record { means = means_taken was.0 m x n was.1.mea
 
 -- ---- the pages of some writes
 
-pub dos-then : (ps qs : List Part) (m : Machine) → dos (ps ++ qs) m ≡ dos qs (dos ps m)
-dos-then [] qs m = refl
-dos-then (p ∷ ps) qs m = dos-then ps qs (one p m)
-
 -- where a machine in which a page is taken has what is asked, and one whose pages are taken
 module _ (P : Machine → Type 0) (each : (k : Machine) (x n : ℕ) → P k → P (one (Take x n) k)) (m : Machine) (n : ℕ) where
   written_taken : (d : Deed) (k : Machine) → P k → P (dos (takes_written m n d) k)
@@ -67,7 +65,7 @@ module _ (P : Machine → Type 0) (each : (k : Machine) (x n : ℕ) → P k → 
     where
       by : (o : Option Write) → d.write ≡ o → P (dos (takes_written m n d) k)
       by None none = rw none was
-      by (Some w) is = rw is (each (one (Take ((w.page - m.shape.maps) / 252) n) k) w.page n (each k ((w.page - m.shape.maps) / 252) n was))
+      by (Some w) is = rw is (each (one (Take (map_of_data m.shape (record { 0 = w.page })).0 n) k) w.page n (each k (map_of_data m.shape (record { 0 = w.page })).0 n was))
 
   pub all_taken : (ds : List Deed) (k : Machine) → P k → P (dos (flat_map (takes_written m n) ds) k)
   all_taken [] k was = was

@@ -1,24 +1,23 @@
 -- What a node that is up has cached is what the machine says of the page.
-use Rattle.std.specs.Prelude.{◌≡◌, ◌≤◌, ◌<◌, ◌*◌, ◌/◌, ◌%◌, ◌+◌, ℕ, true, Some, option_map}
+use Rattle.std.specs.Prelude.{◌≡◌, ◌≤◌, ◌<◌, ℕ, true, Some, option_map}
 use Rattle.std.specs.List.{position}
 use Rattle.std.proofs.Common.{arith, ap, subst, sym, ◌∙◌}
 use Rattle.sd_base.specs.Disk.{BlockState}
 use Rattle.sd_base.specs.Shape.{page_count}
 use Rattle.sd_base.specs.declared.names.PageNo.{PageNo}
+use Rattle.sd_base.specs.Places.{group_of, map_of_key, page_of_place}
 use Rattle.page_image.specs.declared.page_view.PageView.{PageView}
 use Rattle.space_map.specs.Entry.{is_free, is_used_by}
 use Rattle.space_map.specs.Image.{MapImage}
 use Rattle.state_ids.specs.PageImage.{map_page}
 use Rattle.state_ids.specs.Held.{Shows}
 use Rattle.txn_core.specs.Updates.{HasPage}
-use Rattle.record_machine.specs.Machine.{Machine, free_place, group_of, home}
-use Rattle.record_machine.specs.Machine as machine
+use Rattle.record_machine.specs.Machine.{Machine, free_place, home}
 use Rattle.record_machine.specs.Meaning.{Plain}
 use Rattle.cluster_core.specs.declared.node.Node.{Node}
 use Rattle.cluster_core.specs.declared.node.Node.TheVariants.{Down, Idle, Up}
 use Rattle.cluster_core.specs.Changes.{HasMap, ShowsData, ShowsMap}
 use Rattle.cluster_core.specs.Cluster.{ClusterState}
-use Rattle.cluster_core.specs.Places.{map_number, page_number}
 use Rattle.cluster_core.specs.Ports.{OnUp, is_up}
 use Rattle.cluster_core.specs.Shows.{ShowsNode, ShowsStore}
 use Rattle.cluster_core.proofs.CachedImages.{data_shown, map_shown}
@@ -68,20 +67,20 @@ module _ (c : ClusterState) (b : ℕ → BlockState) (p : Plain) (m : Machine) (
   data_ident_is x v far within has = ap (λ i. i.ident) (data_is x v far within has) ∙ shown.means.pages.ident x.0 (omega (arith, far, maps)) (omega (arith, within, maps))
 
   -- the map page of a key, the page of its group, and the place that it gets if it has none
-  pub map_number_is : (key : ℕ) → machine.map_of m key ≡ map_number c.shape key
-  map_number_is key = ap (λ n. (key / 16) % n) maps
+  pub map_of_key_is : (key : ℕ) → map_of_key m.shape key ≡ map_of_key c.shape key
+  map_of_key_is key = ap (λ s. map_of_key s key) shown.shape
 
-  page_number_is : (map place : ℕ) → machine.page_at m map place ≡ page_number c.shape map place
-  page_number_is map place = ap (λ n. n + 252 * map + place) maps
+  page_of_place_is : (map place : ℕ) → page_of_place m.shape map place ≡ page_of_place c.shape map place
+  page_of_place_is map place = ap (λ s. page_of_place s map place) shown.shape
 
-  pub home_is : (key : ℕ) (map : PageNo) (image : MapImage) → map.0 ≡ map_number c.shape key → map.0 < c.shape.maps → ShowsMap c map image
-      → home m key ≡ option_map (page_number c.shape map.0) (position (is_used_by (group_of key)) image.entries)
+  pub home_is : (key : ℕ) (map : PageNo) (image : MapImage) → map.0 ≡ map_of_key c.shape key → map.0 < c.shape.maps → ShowsMap c map image
+      → home m key ≡ option_map (page_of_place c.shape map.0) (position (is_used_by (group_of key)) image.entries)
   home_is key map image at near has =
-      let number : machine.map_of m key ≡ map.0 = map_number_is key ∙ sym at in
-      ap (λ n. option_map (machine.page_at m n) (position (is_used_by (group_of key)) (m.entries n))) number
-      ∙ ap (λ es. option_map (machine.page_at m map.0) (position (is_used_by (group_of key)) es)) (sym (entries_is map image near has))
-      ∙ ap (λ n. option_map (λ place. n + 252 * map.0 + place) (position (is_used_by (group_of key)) image.entries)) maps
+      let number : map_of_key m.shape key ≡ map.0 = map_of_key_is key ∙ sym at in
+      ap (λ n. option_map (page_of_place m.shape n) (position (is_used_by (group_of key)) (m.entries n))) number
+      ∙ ap (λ es. option_map (page_of_place m.shape map.0) (position (is_used_by (group_of key)) es)) (sym (entries_is map image near has))
+      ∙ ap (λ s. option_map (page_of_place s map.0) (position (is_used_by (group_of key)) image.entries)) shown.shape
 
-  pub free_is : (key : ℕ) (map : PageNo) (image : MapImage) → map.0 ≡ map_number c.shape key → map.0 < c.shape.maps → ShowsMap c map image → free_place m key ≡ position is_free image.entries
+  pub free_is : (key : ℕ) (map : PageNo) (image : MapImage) → map.0 ≡ map_of_key c.shape key → map.0 < c.shape.maps → ShowsMap c map image → free_place m key ≡ position is_free image.entries
   free_is key map image at near has =
-      ap (λ n. position is_free (m.entries n)) (map_number_is key ∙ sym at) ∙ ap (position is_free) (sym (entries_is map image near has))
+      ap (λ n. position is_free (m.entries n)) (map_of_key_is key ∙ sym at) ∙ ap (position is_free) (sym (entries_is map image near has))

@@ -1,5 +1,5 @@
 -- What a cluster shows after a lock was taken, and what a transaction reads under a lock.
-use Rattle.std.specs.Prelude.{◌≡◌, ◌≤◌, ◌<◌, ◌/◌, ◌%◌, ◌++◌, ◌∷◌, [], ℕ, true, List, Option, Some, None, Ok, IsTrue, IfNone, IfSome, option_map, refl}
+use Rattle.std.specs.Prelude.{◌≡◌, ◌≤◌, ◌<◌, ◌++◌, ◌∷◌, [], ℕ, true, List, Option, Some, None, Ok, IsTrue, IfNone, IfSome, option_map, refl}
 use Rattle.std.proofs.Common.{arith, ap, subst, sym, ◌∙◌}
 use Rattle.sd_base.specs.Disk.{BlockState}
 use Rattle.sd_base.specs.Shape.{page_count}
@@ -7,6 +7,8 @@ use Rattle.sd_base.specs.declared.names.Key.{Key}
 use Rattle.sd_base.specs.declared.names.PageNo.{PageNo}
 use Rattle.sd_base.specs.declared.names.TxnId.{TxnId}
 use Rattle.sd_base.specs.declared.shape.Shape.{Shape}
+use Rattle.sd_base.specs.Places.{map_of_key, page_of_place, slot_of_key}
+use Rattle.sd_base.proofs.PlaceLaws.{map_of_key-below}
 use Rattle.page_image.specs.declared.page_view.PageView.{PageView}
 use Rattle.compensation.specs.Inverse.{content}
 use Rattle.record_locks.specs.declared.mode.Mode.{Mode}
@@ -14,11 +16,10 @@ use Rattle.record_locks.specs.Answer.{lock_answer, may_take}
 use Rattle.record_locks.specs.Held.{mode_of, raised, taken}
 use Rattle.record_locks.proofs.HeldLaws.{mode_of-taken}
 use Rattle.record_machine.specs.Commands.{found, takes_both}
-use Rattle.record_machine.specs.Machine.{Machine, free_place, home, map_of, new_home, page_at, seen}
-use Rattle.record_machine.specs.Parts.{Lock, Part, dos, one}
+use Rattle.record_machine.specs.Machine.{Machine, free_place, home, new_home, seen}
+use Rattle.record_machine.specs.Parts.{Lock, dos, one}
 use Rattle.record_machine.proofs.LockSteps.{seen_absent, seen_locked}
-use Rattle.record_machine.proofs.Steps.{means_locked}
-use Rattle.record_machine.proofs.Homes.{below_maps}
+use Rattle.record_machine.proofs.Steps.{dos-then, means_locked}
 use Rattle.record_machine.proofs.UseSteps.{blank_there}
 use Rattle.cluster_core.specs.declared.node.Node.{Node}
 use Rattle.cluster_core.specs.declared.node.Node.TheVariants.{Down, Idle, Up}
@@ -28,11 +29,6 @@ use Rattle.cluster_core.specs.Cluster.{ClusterState}
 use Rattle.cluster_core.specs.Ports.{is_up}
 use Rattle.cluster_core.specs.Shows.{IsShown, ShowsNode}
 use Rattle.cluster_core.proofs.ShownImages.{data_is}
-
--- parts one after the other
-pub dos-append : (ps qs : List Part) (m : Machine) → dos (ps ++ qs) m ≡ dos qs (dos ps m)
-dos-append [] qs m = refl
-dos-append (p ∷ ps) qs m = dos-append ps qs (one p m)
 
 -- what the pages taken change nothing of
 pub takes_home : (m : Machine) (n key k : ℕ) (o : Option ℕ) → home (dos (takes_both m n key o) m) k ≡ home m k
@@ -64,29 +60,29 @@ shown_locked c b m key t mode free shown =
 
 -- a transaction that may have the lock sees what the slot of the key holds in the page of its group
 pub seen_there : (c : ClusterState) (b : ℕ → BlockState) (m : Machine) (key : Key) (t : TxnId) (mode : Mode) (x : PageNo) (v : PageView) → is_up c.node ≡ true → IsTrue (may_take (lock_answer c.locks key t mode)) → home m key.0 ≡ Some x.0
-    → c.shape.maps ≤ x.0 → x.0 < page_count c.shape → ShowsData c x v → IsShown c b m → content v (key.0 % 16) ≡ seen m t key.0
+    → c.shape.maps ≤ x.0 → x.0 < page_count c.shape → ShowsData c x v → IsShown c b m → content v (slot_of_key key.0) ≡ seen m t key.0
 seen_there c b m key t mode x v up free is far within has shown =
     let s = shown.1 in
     let after = means_locked shown.0 m key t mode (subst (λ held. IsTrue (may_take (lock_answer held key t mode))) (sym s.locks) free) s.means in
-    ap (λ v. content v (key.0 % 16)) (data_is c b shown.0 m up s x v far within has)
+    ap (λ v. content v (slot_of_key key.0)) (data_is c b shown.0 m up s x v far within has)
     ∙ seen_locked shown.0 (one (Lock key t mode) m) key x.0 t (raised (mode_of m.locks key t) mode) after.locked after.pages is (mode_of-taken m.locks key t mode)
 
 -- and none where its group has no page, as none is in the one that the group gets
 pub seen_none : (c : ClusterState) (b : ℕ → BlockState) (m : Machine) (key : ℕ) (txn : TxnId) → home m key ≡ None → IsShown c b m → seen m txn key ≡ None
 seen_none c b m key txn none shown = seen_absent shown.0 m key txn shown.1.means.logs shown.1.means.pages none
 
-pub blank_shown : (c : ClusterState) (b : ℕ → BlockState) (m : Machine) (key place : ℕ) (x : PageNo) (v : PageView) → is_up c.node ≡ true → free_place m key ≡ Some place → new_home m key ≡ Some x.0 → c.shape.maps ≤ x.0 → x.0 < page_count c.shape → ShowsData c x v → IsShown c b m → content v (key % 16) ≡ None
+pub blank_shown : (c : ClusterState) (b : ℕ → BlockState) (m : Machine) (key place : ℕ) (x : PageNo) (v : PageView) → is_up c.node ≡ true → free_place m key ≡ Some place → new_home m key ≡ Some x.0 → c.shape.maps ≤ x.0 → x.0 < page_count c.shape → ShowsData c x v → IsShown c b m → content v (slot_of_key key) ≡ None
 blank_shown c b m key place x v up free page far within has shown =
     let s = shown.1 in
-    let here : Some (page_at m (map_of m key) place) ≡ Some x.0 = sym (ap (option_map (page_at m (map_of m key))) free) ∙ page in
-    let number : x.0 ≡ page_at m (map_of m key) place = cc in
-    ap (λ v. content v (key % 16)) (data_is c b shown.0 m up s x v far within has)
-    ∙ ap (λ n. content (shown.0.pages n) (key % 16)) number
-    ∙ blank_there shown.0 m (map_of m key) place (key % 16) s.means.pages (below_maps (key / 16) m.shape.maps s.means.pages.shape.maps.0) free (omega arith)
+    let here : Some (page_of_place m.shape (map_of_key m.shape key) place) ≡ Some x.0 = sym (ap (option_map (page_of_place m.shape (map_of_key m.shape key))) free) ∙ page in
+    let number : x.0 ≡ page_of_place m.shape (map_of_key m.shape key) place = cc in
+    ap (λ v. content v (slot_of_key key)) (data_is c b shown.0 m up s x v far within has)
+    ∙ ap (λ n. content (shown.0.pages n) (slot_of_key key)) number
+    ∙ blank_there shown.0 m (map_of_key m.shape key) place (slot_of_key key) s.means.pages (map_of_key-below m.shape key s.means.pages.shape) free (omega arith)
 
 -- the record of a key, read from the page of its group by a transaction that may have the lock
 pub read_is : (c : ClusterState) (b : ℕ → BlockState) (m : Machine) (key : Key) (t : TxnId) (mode : Mode) (page : Option PageNo) (value : Option (List ℕ)) → is_up c.node ≡ true → IsTrue (may_take (lock_answer c.locks key t mode)) → option_map (λ x. x.0) page ≡ home m key.0
-    → IfSome page (λ x. (c.shape.maps ≤ x.0) × (x.0 < page_count c.shape)) → IfNone page (value ≡ None) → IfSome page (λ x. (v : PageView) → ShowsData c x v → value ≡ content v (key.0 % 16)) → IfSome page (λ x. (v : PageView) × ShowsData c x v) → IsShown c b m → value ≡ seen m t key.0
+    → IfSome page (λ x. (c.shape.maps ≤ x.0) × (x.0 < page_count c.shape)) → IfNone page (value ≡ None) → IfSome page (λ x. (v : PageView) → ShowsData c x v → value ≡ content v (slot_of_key key.0)) → IfSome page (λ x. (v : PageView) × ShowsData c x v) → IsShown c b m → value ≡ seen m t key.0
 read_is c b m key t mode None value up free is within none some there shown = none ∙ sym (seen_none c b m key.0 t (sym is) shown)
 read_is c b m key t mode (Some x) value up free is within none some there shown = some there.0 there.1 ∙ seen_there c b m key t mode x there.0 up free (sym is) within.0 within.1 there.1 shown
 
@@ -95,12 +91,12 @@ pub locks_behind : (c : ClusterState) (b : ℕ → BlockState) (m : Machine) (ke
     → IsShown (record c { locks = taken c.locks key t mode }) b (dos (takes_both m t.node.0 key.0 (home m key.0) ++ Lock key t mode ∷ []) m)
 locks_behind c b m key t mode node free shown =
     subst (λ n. IsShown (record c { locks = taken c.locks key t mode }) b (dos (takes_both m n key.0 (home m key.0) ++ Lock key t mode ∷ []) m)) (sym node)
-    (subst (IsShown (record c { locks = taken c.locks key t mode }) b) (sym (dos-append (takes_both m 1 key.0 (home m key.0)) (Lock key t mode ∷ []) m))
+    (subst (IsShown (record c { locks = taken c.locks key t mode }) b) (sym (dos-then (takes_both m 1 key.0 (home m key.0)) (Lock key t mode ∷ []) m))
     (shown_locked c b (dos (takes_both m 1 key.0 (home m key.0)) m) key t mode free shown))
 
 -- once the pages of its group were taken
 pub taken_read : (c : ClusterState) (b : ℕ → BlockState) (m : Machine) (key : Key) (t : TxnId) (mode : Mode) (page : Option PageNo) (value : Option (List ℕ)) → is_up c.node ≡ true → IsTrue (may_take (lock_answer c.locks key t mode)) → option_map (λ x. x.0) page ≡ home m key.0
-    → IfSome page (λ x. (c.shape.maps ≤ x.0) × (x.0 < page_count c.shape)) → IfNone page (value ≡ None) → IfSome page (λ x. (v : PageView) → ShowsData c x v → value ≡ content v (key.0 % 16)) → IfSome page (λ x. (v : PageView) × ShowsData c x v)
+    → IfSome page (λ x. (c.shape.maps ≤ x.0) × (x.0 < page_count c.shape)) → IfNone page (value ≡ None) → IfSome page (λ x. (v : PageView) → ShowsData c x v → value ≡ content v (slot_of_key key.0)) → IfSome page (λ x. (v : PageView) × ShowsData c x v)
     → IsShown c b (dos (takes_both m 1 key.0 (home m key.0)) m) → value ≡ seen m t key.0
 taken_read c b m key t mode page value up free is within none some there shown =
     read_is c b (dos (takes_both m 1 key.0 (home m key.0)) m) key t mode page value up free (is ∙ sym (takes_home m 1 key.0 key.0 (home m key.0))) within none some there shown ∙ takes_seen m 1 key.0 key.0 t (home m key.0)

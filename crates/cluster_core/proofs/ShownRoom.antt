@@ -20,7 +20,7 @@ use Rattle.cluster_core.specs.Cluster.{ClusterState}
 use Rattle.cluster_core.specs.Ports.{OnUp, is_up}
 use Rattle.cluster_core.specs.Shows.{IsShown, ShowsNode}
 use Rattle.cluster_core.proofs.LeftWrites.{left_fits}
-use Rattle.cluster_core.proofs.ShownUpdate.{busy_txn}
+use Rattle.txn_core.proofs.SeatLaws.{txn_of}
 
 pub has_room : (c : ClusterState) (b : ℕ → BlockState) (m : Machine) (t : TxnId) (x : PageNo) → is_up c.node ≡ true → c.shape.nodes ≡ 1 → t.node.0 ≡ 1 → t.seat < 8 → OnUp c.node (λ k seats. IsTrue (is_busy seats t.seat)) → c.shape.maps ≤ x.0 → x.0 < page_count c.shape → (v : PageView) × ShowsData c x v → IsShown c b m
     → OnLeft c b t.seat x (λ v left. 2 ^ 63 + 2 ^ 40 < v.ident + left) → ⊥
@@ -33,7 +33,7 @@ has_room c b m t x up nodes node low busy far within there shown over = by c.nod
         → OnUp n (λ k seats. (v : PageView) (recs : List LogRecord) (u : OpenTxn) → HasPage c.pool k.pages x v → txn_in seats t.seat ≡ Some u → HasRecords k.log b recs → AreTold seats k.log.start recs → 2 ^ 63 + 2 ^ 40 < v.ident + left_on u.begin (6 * k.log.start) recs x.0) → ⊥
     by Idle up busy has was over = let never : false ≡ true = up in cc
     by (Up k seats) up busy has was over =
-        let u = busy_txn seats t.seat busy in
+        let u = txn_of seats t.seat busy in
         let fits = left_fits c.shape c.pool k seats b p m t u.0 was.1 shown.1.means.logs node low u.1 x there.0 shown.1.shape nodes shown.1.means.pages shown.1.means.tops far within has in
         let more = over there.0 (p.live 1) u.0 has u.1 was.1.records was.1.told in
         omega (arith, fits, more)

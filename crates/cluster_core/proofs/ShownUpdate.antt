@@ -1,5 +1,5 @@
 -- What a cluster shows after a transaction has changed a slot of a page.
-use Rattle.std.specs.Prelude.{◌≡◌, ◌≢◌, ◌+◌, ◌*◌, ◌%◌, ◌^◌, ◌<◌, ◌≤◌, ◌++◌, ◌∷◌, [], ℕ, true, false, List, Option, Some, None, IsTrue, All, AllPairs, IfSome, is_some, length, map, reverse, slice_index_or, slice_set, take, refl}
+use Rattle.std.specs.Prelude.{◌≡◌, ◌≢◌, ◌+◌, ◌*◌, ◌^◌, ◌<◌, ◌≤◌, ◌++◌, ◌∷◌, [], ℕ, true, false, List, Option, Some, None, All, AllPairs, IfSome, length, map, reverse, slice_index_or, slice_set, take, refl}
 use Rattle.std.proofs.Common.{arith, inl, inr, ap, subst, sym, ◌∙◌}
 use Rattle.std.proofs.lemmas.Bool.{cases_eq}
 use Rattle.std.proofs.lemmas.List.{get_or-set_other, get_or-set_same, length-append, map-append, reverse-append, take_all}
@@ -8,6 +8,7 @@ use Rattle.sd_base.specs.Disk.{BlockState}
 use Rattle.sd_base.specs.declared.names.PageNo.{PageNo}
 use Rattle.sd_base.specs.declared.names.TxnId.{TxnId}
 use Rattle.sd_base.specs.declared.shape.Shape.{Shape}
+use Rattle.sd_base.specs.Places.{slot_of_key}
 use Rattle.page_image.specs.declared.page_view.PageView.{PageView}
 use Rattle.page_image.specs.Change.{applied, value_in, with_append, with_put}
 use Rattle.log_record.specs.declared.record.LogRecord.{LogRecord}
@@ -63,13 +64,13 @@ slot_changed v slot (Append bytes) low fits =
 slot_changed v slot Delete low fits = put_slot v slot None low
 
 -- the record of the change tells the write of this value
-pub update_tells : (u : OpenTxn) (v : PageView) (slot : ℕ) (what : Change) (w : Write) → v.page.0 ≡ w.page → slot ≡ w.key % 16 → w.value ≡ value_after what (content v slot) → Tells (update_of u v slot what) w (content v slot)
+pub update_tells : (u : OpenTxn) (v : PageView) (slot : ℕ) (what : Change) (w : Write) → v.page.0 ≡ w.page → slot ≡ slot_of_key w.key → w.value ≡ value_after what (content v slot) → Tells (update_of u v slot what) w (content v slot)
 update_tells u v slot (Put value) w page place is = (page, place, refl, sym is)
 update_tells u v slot (Append bytes) w page place is = (page, place, (refl, refl), is)
 update_tells u v slot Delete w page place is = (page, place, refl, sym is)
 
 -- what a store means, where the page of the key's group has its new value
-pub means_updated : (p : Plain) (m : Machine) (t : TxnId) (w : Write) (u : OpenTxn) (x : PageNo) (slot : ℕ) (what : Change) → t.node.0 ≡ 1 → home m w.key ≡ Some w.page → w.page ≡ x.0 → w.key % 16 ≡ slot → mode_of m.locks (record { 0 = w.key }) t ≡ Some locks.Write
+pub means_updated : (p : Plain) (m : Machine) (t : TxnId) (w : Write) (u : OpenTxn) (x : PageNo) (slot : ℕ) (what : Change) → t.node.0 ≡ 1 → home m w.key ≡ Some w.page → w.page ≡ x.0 → slot_of_key w.key ≡ slot → mode_of m.locks (record { 0 = w.key }) t ≡ Some locks.Write
     → w.value ≡ value_after what (seen m t w.key) → (p.pages x.0).page ≡ x → (p.pages x.0).ident < 2 ^ 63 → ((n : ℕ) → 1 ≤ n → n ≤ m.shape.nodes → owed m n ≤ 6 * m.shape.ring) → slot < length (p.pages x.0).slots → FitsSlotOf (p.pages x.0) slot what → Means p m
     → Means (logged 1 (update_of u (p.pages x.0) slot what) (with_page x.0 (applied (op_of slot what) (p.pages x.0)) p)) (one (Changed t w) m)
 means_updated p m t w u x slot what one_node here page place lock value number before owes low fits means =
@@ -77,24 +78,16 @@ means_updated p m t w u x slot what one_node here page place lock value number b
     let rec : LogRecord = update_of u v slot what in
     let new : PageView = applied (op_of slot what) v in
     let sees : content v slot ≡ seen m t w.key =
-    subst (λ k. content v k ≡ seen m t w.key) place (subst (λ y. content (p.pages y) (w.key % 16) ≡ seen m t w.key) page (seen_locked p m (record { 0 = w.key }) w.page t locks.Write means.locked means.pages here lock)) in
+    subst (λ k. content v k ≡ seen m t w.key) place (subst (λ y. content (p.pages y) (slot_of_key w.key) ≡ seen m t w.key) page (seen_locked p m (record { 0 = w.key }) w.page t locks.Write means.locked means.pages here lock)) in
     let is : w.value ≡ value_after what (content v slot) = value ∙ ap (value_after what) (sym sees) in
     let tells : Tells rec w (seen m t w.key) = subst (Tells rec w) sees (update_tells u v slot what w (ap (λ (y : PageNo). y.0) number ∙ sym page) (sym place) is) in
     let range = home_is_data p m w.key w.page means.pages here in
     let ident : m.ident w.page < 2 ^ 63 = subst (λ n. n < 2 ^ 63) (means.pages.ident w.page range.0 range.1) (subst (λ y. (p.pages y).ident < 2 ^ 63) (sym page) before) in
-    let changed : IsChangedAt (w.key % 16) w.value (p.pages w.page) new =
-    subst (λ y. IsChangedAt (w.key % 16) w.value (p.pages y) new) (sym page) (subst (λ k. IsChangedAt k w.value v new) (sym place) (subst (λ o. IsChangedAt slot o v new) (sym is) (slot_changed v slot what low fits))) in
+    let changed : IsChangedAt (slot_of_key w.key) w.value (p.pages w.page) new =
+    subst (λ y. IsChangedAt (slot_of_key w.key) w.value (p.pages y) new) (sym page) (subst (λ k. IsChangedAt k w.value v new) (sym place) (subst (λ o. IsChangedAt slot o v new) (sym is) (slot_changed v slot what low fits))) in
     subst (λ n. Means (logged n rec (with_page x.0 new p)) (one (Changed t w) m)) one_node (subst (λ y. Means (logged t.node.0 rec (with_page y new p)) (one (Changed t w) m)) page (means_changed p m t w rec new here lock tells changed ident owes means))
 
 -- ---- the deeds of the seats
-
--- a busy seat has a transaction
-pub busy_txn : (seats : SeatsState) (seat : ℕ) → IsTrue (is_some (txn_in seats seat)) → (u : OpenTxn) × (txn_in seats seat ≡ Some u)
-busy_txn seats seat busy = by (txn_in seats seat) refl busy
-  where
-    by : (o : Option OpenTxn) → txn_in seats seat ≡ o → IsTrue (is_some o) → (u : OpenTxn) × (txn_in seats seat ≡ Some u)
-    by None is some = absurd (let never : false ≡ true = some in cc)
-    by (Some u) is some = (u, is)
 
 -- A transaction has one deed more, whose record is the newest update of it and is none of another transaction.
 module _ (seats after : SeatsState) (t : TxnId) (w : Option Write) (u : OpenTxn) (last left first number : ℕ) (recs : List LogRecord) (rec : LogRecord) (ds : List Deed) where

@@ -7,6 +7,7 @@ use Rattle.sd_base.specs.declared.names.GroupNo.{GroupNo}
 use Rattle.sd_base.specs.declared.names.PageNo.{PageNo}
 use Rattle.sd_base.specs.declared.page_op.PageOp.TheVariants as ops
 use Rattle.sd_base.specs.declared.shape.Shape.{Shape}
+use Rattle.sd_base.specs.Places.{group_of, map_of_data, map_of_key, place_of_page}
 use Rattle.frame_pool.specs.Frames.{frame_at}
 use Rattle.space_map.specs.declared.map_entry.MapEntry.{MapEntry}
 use Rattle.space_map.specs.declared.map_entry.MapEntry.TheVariants.{Free, Used}
@@ -23,15 +24,12 @@ use Rattle.state_ids.specs.Held.{KeepsFrames, Shows}
 use Rattle.state_ids.specs.PageImage.{data_page, map_page}
 use Rattle.node_cache.specs.Cache as cache
 use Rattle.node_cache.specs.Cache.{CacheState, changed_by, is_page, page_at}
-use Rattle.node_cache.specs.Room as room
-use Rattle.node_cache.specs.Room.{place_in_map}
 use Rattle.node_cache.proofs.OnePage.{found, is_page-other, is_page-same}
 use Rattle.node_cache.proofs.Without.{shows_same}
 use Rattle.txn_core.specs.Seats.{OpenTxn, SeatsState, txn_in}
 use Rattle.txn_core.specs.Told.{AreTold, HasRecords}
-use Rattle.txn_core.proofs.CompensationLaws.{find_all}
 use Rattle.txn_core.proofs.SeatLaws.{space_less}
-use Rattle.record_machine.specs.Machine.{Machine, free_place, group_of, home, map_of}
+use Rattle.record_machine.specs.Machine.{Machine, free_place, home}
 use Rattle.record_machine.specs.Meaning.{Means, Plain, logged, with_map}
 use Rattle.record_machine.specs.Parts.{Use, one}
 use Rattle.record_machine.proofs.Put.{at_or_off, put_other, put_same}
@@ -41,9 +39,10 @@ use Rattle.cluster_core.specs.Cluster.{IsAtWork}
 use Rattle.cluster_core.specs.Shows.{ShowsUp, image_in}
 use Rattle.cluster_core.proofs.CachedImages.{map_image}
 use Rattle.cluster_core.proofs.OtherRecords.{use_is_none}
-use Rattle.cluster_core.proofs.PageChanged.{frames_beside, page_beside}
 use Rattle.cluster_core.proofs.ShownBegin.{numbers-other}
 use Rattle.cluster_core.proofs.ShownChange.{OnlyPage, up_changed}
+use Rattle.sd_base.proofs.Positions.{find_all}
+use Rattle.node_cache.proofs.ChangedPages.{frames_beside, page_beside}
 
 -- ---- the map page
 
@@ -59,8 +58,8 @@ idents_set (f ∷ es) (suc place) (suc k) e same = idents_set es place k e same
 pub only_map : (s : Shape) (p : Plain) (x : PageNo) (map : MapImage) → ((k : ℕ) → option_map ident_of (slice_get map.entries k) ≡ option_map ident_of (slice_get (p.maps x.0).entries k)) → OnlyPage s p (with_map x.0 map p) x
 only_map s p x map idents = record {
   others = λ y other. ap (λ m. if nat_lt y.0 s.maps then map_page m else data_page (p.pages y.0)) (put_other x.0 map p.maps y.0 (λ same. other (ap (λ n. record { 0 = n }) same)));
-  entries = λ y. either (nat_lt y.0 s.maps) _ _ (at_or_off (λ m. option_map ident_of (slice_get m.entries (place_in_map s y)) ≡ option_map ident_of (slice_get (p.maps (room.map_of s y).0).entries (place_in_map s y))) x.0 map p.maps (room.map_of s y).0
-      (λ same. idents (place_in_map s y) ∙ ap (λ n. option_map ident_of (slice_get (p.maps n).entries (place_in_map s y))) (sym same)) (λ other. refl));
+  entries = λ y. either (nat_lt y.0 s.maps) _ _ (at_or_off (λ m. option_map ident_of (slice_get m.entries (place_of_page s y)) ≡ option_map ident_of (slice_get (p.maps (map_of_data s y).0).entries (place_of_page s y))) x.0 map p.maps (map_of_data s y).0
+      (λ same. idents (place_of_page s y) ∙ ap (λ n. option_map ident_of (slice_get (p.maps n).entries (place_of_page s y))) (sym same)) (λ other. refl));
 }
   where
     either : (b : Bool) (e f : Option MapEntry) → option_map ident_of e ≡ option_map ident_of f → option_map ident_of (if b then None else e) ≡ option_map ident_of (if b then None else f)
@@ -68,15 +67,15 @@ only_map s p x map idents = record {
     either false e f same = same
 
 -- what a store means, where the place of the map page has come into use
-pub means_placed : (p : Plain) (m : Machine) (map : PageNo) (place key : ℕ) (group : GroupNo) (rec : LogRecord) → home m key ≡ None → free_place m key ≡ Some place → group_of key ≡ group → map_of m key ≡ map.0 → map.0 < m.shape.maps → Means p m
+pub means_placed : (p : Plain) (m : Machine) (map : PageNo) (place key : ℕ) (group : GroupNo) (rec : LogRecord) → home m key ≡ None → free_place m key ≡ Some place → group_of key ≡ group → map_of_key m.shape key ≡ map.0 → map.0 < m.shape.maps → Means p m
     → Means (logged 1 rec (with_map map.0 (applied_map (ops.MapUse place group) (p.maps map.0)) p)) (one (Use 1 map.0 place group) m)
 means_placed p m map place key group rec none free its_group its_map near means =
     subst (λ g. Means (logged 1 rec (with_map map.0 (applied_map (ops.MapUse place g) (p.maps map.0)) p)) (one (Use 1 map.0 place g) m)) its_group
     (subst (λ k. Means (logged 1 rec (with_map k (applied_map (ops.MapUse place (group_of key)) (p.maps k)) p)) (one (Use 1 k place (group_of key)) m)) its_map
-    (means_used p m 1 place key rec (applied_map (ops.MapUse place (group_of key)) (p.maps (map_of m key))) none free (record {
+    (means_used p m 1 place key rec (applied_map (ops.MapUse place (group_of key)) (p.maps (map_of_key m.shape key))) none free (record {
       page = refl;
       ident = refl;
-      entries = ap (λ es. slice_set (p.maps (map_of m key)).entries place (Used (group_of key) (ident_of (slice_index_or es place (Free 0))))) (means.pages.entries (map_of m key) (subst (λ k. k < m.shape.maps) (sym its_map) near));
+      entries = ap (λ es. slice_set (p.maps (map_of_key m.shape key)).entries place (Used (group_of key) (ident_of (slice_index_or es place (Free 0))))) (means.pages.entries (map_of_key m.shape key) (subst (λ k. k < m.shape.maps) (sym its_map) near));
     }) means))
 
 -- ---- the node after it

@@ -22,9 +22,10 @@ use Rattle.txn_core.specs.Told.{IsOpenIn, NamesEarlier}
 use Rattle.record_machine.specs.Machine.{Machine}
 use Rattle.record_machine.specs.Meaning.{Plain}
 use Rattle.record_machine.specs.Parts.{Start, one}
+use Rattle.store_format.specs.FaultReply.{fault_reply}
 use Rattle.cluster_core.specs.declared.node.Node.{Node}
 use Rattle.cluster_core.specs.declared.node.Node.TheVariants.{Down, Idle, Up}
-use Rattle.cluster_core.specs.FaultReply.{IsToldDamaged, fault_reply}
+use Rattle.cluster_core.specs.LogReply.{IsToldDamaged}
 use Rattle.cluster_core.specs.Ports.{AreLive}
 use Rattle.cluster_core.specs.Shows.{ShowsIdle, ShowsNode, ShowsUp}
 

@@ -18,7 +18,7 @@ use Rattle.record_machine.specs.Parts.{Begin, Seal, Start, Unlock, dos, one}
 use Rattle.record_machine.specs.Rows.{IsNextRow, RowStep}
 use Rattle.cluster_core.specs.Dumps.{IsFirstRecord, reply_row}
 use Rattle.cluster_core.specs.declared.dumping.Row.{Row}
-use Rattle.record_machine.specs.Commands.{MayAnswer, Stayed, Step, TellsNode, first_of, no_deletion, no_page, parts, takes, too_long}
+use Rattle.record_machine.specs.Commands.{MayAnswer, Stayed, Step, TellsNode, first_of, needs_pages, no_deletion, no_page, parts, takes, too_long}
 use Rattle.record_machine.specs.Commands as wants
 use Rattle.cluster_core.specs.Answering.{Answers, AnswersWith, reply_deleted, reply_flushed, reply_found, reply_of}
 use Rattle.cluster_core.specs.Cluster.{ClusterState, IsCluster}
@@ -26,22 +26,23 @@ use Rattle.cluster_core.specs.Known.{checked, known, no_lock, no_node, no_txn, n
 use Rattle.cluster_core.specs.Ports.{says_stop}
 use Rattle.cluster_core.specs.Shows.{IsShown, ShowsStore}
 use Rattle.cluster_core.proofs.KnownRefusals.{known_abort, known_begin, known_change, known_commit, known_dump, known_flush, known_get, known_start, known_stat, one_or_none, told_node}
+use Rattle.cluster_core.proofs.WhenRefused.{known_stays, late_deletion, late_length, late_write}
 use Rattle.cluster_core.proofs.WriteTests.{not_stopped}
 use Rattle.cluster_core.proofs.Testing.{passed}
 
 -- ---- a step, by what the machine refuses
 
-pub refused_step : (m : Machine) (c : Command) (why : Reply) (S : Machine → Type 0) → wants.refusal m c ≡ Some why → S m → Step m c why S
-refused_step m c why S is shown = rw is (refl, record { count = 0; after = shown })
+pub refused_step : (m : Machine) (c : Command) (why : Reply) (S : Machine → Type 0) → wants.refusal m c ≡ Some why → Stayed m c why S → Step m c why S
+refused_step m c why S is stayed = rw is (refl, stayed)
 
 pub done_step : (m : Machine) (c : Command) (r : Reply) (S : Machine → Type 0) → wants.refusal m c ≡ None → MayAnswer m c r → S (dos (parts m c) m) → Step m c r S
 done_step m c r S is says shown = rw is (says, shown)
 
 -- of a command that can be refused behind the tests that memory alone decides
-pub answered_step : {T : Type 0} (m : Machine) (c : Command) (value : T) (say : Result T Reply → Reply) (o : Option Reply) (r : Result T Reply) (S : Machine → Type 0) → wants.refusal m c ≡ o → MayAnswer m c (say (Ok value)) → ((why : Reply) → say (Err why) ≡ why)
-    → AnswersWith value o r (S (dos (parts m c) m)) (Stayed m (takes m c) S) → Step m c (say r) S
-answered_step m c value say None r S is says err done = rw is (subst (λ k. MayAnswer m c (say k)) (sym done.0) says, done.1)
-answered_step m c value say (Some why) r S is says err stayed = rw is (ap say stayed.0 ∙ err why, stayed.1)
+pub answered_step : {T : Type 0} (m : Machine) (c : Command) (value : T) (say : Result T Reply → Reply) (o : Option Reply) (r : Result T Reply) (S : Machine → Type 0) → wants.refusal m c ≡ o → MayAnswer m c (say (Ok value)) → ((why : Reply) → say (Err why) ≡ why) → ((why : Reply) → o ≡ Some why → needs_pages why ≡ true)
+    → AnswersWith value o r (S (dos (parts m c) m)) (S (dos (takes m c) m)) → Step m c (say r) S
+answered_step m c value say None r S is says err late done = rw is (subst (λ k. MayAnswer m c (say k)) (sym done.0) says, done.1)
+answered_step m c value say (Some why) r S is says err late stayed = rw is (ap say stayed.0 ∙ err why, rw (late why refl) stayed.1)
 
 -- ---- what is refused for what is in memory
 
@@ -126,7 +127,7 @@ deleted_is (Some value) = refl
 
 module _ (c : ClusterState) (b : ℕ → BlockState) (m : Machine) (is : IsCluster c.shape c.pool c.owners c.node) (shown : IsShown c b m) where
   pub known_step : (command : Command) (why : Reply) → InRange command → known c command ≡ Some why → Step m command why (IsShown c b)
-  known_step command why range so = refused_step m command why (IsShown c b) (known_is c b shown.0 m command why is shown.1 range so) shown
+  known_step command why range so = refused_step m command why (IsShown c b) (known_is c b shown.0 m command why is shown.1 range so) (known_stays c m command why (IsShown c b) so shown)
 
   none_of : (command other : Command) (r : Result (Unit {0}) Reply) → command ≡ other → r ≡ checked (known c command) → r ≡ Ok tt → known c other ≡ None
   none_of command other r same tests done = passed (known c other) (ap (λ k. checked (known c k)) (sym same) ∙ sym tests ∙ done)
@@ -154,28 +155,28 @@ module _ (c : ClusterState) (b : ℕ → BlockState) (m : Machine) (is : IsClust
         (done_step m (asks.Get t key) (reply_found r) S (known_get c b shown.0 m is shown.1 t key (subst InRange same range).0 ∙ so) (of_found r stops runs says) (of_found r stops runs holds))
 
     pub put_step : (t : TxnId) (key : Key) (value : List ℕ) (r : Result (Unit {0}) Reply) → command ≡ asks.Put t key value
-        → Answers (no_page m t.node key.0 None) r (S (dos (parts m (asks.Put t key value)) m)) (Stayed m (takes m (asks.Put t key value)) S) → Step m command (reply_of r) S
+        → Answers (no_page m t.node key.0 None) r (S (dos (parts m (asks.Put t key value)) m)) (S (dos (takes m (asks.Put t key value)) m)) → Step m command (reply_of r) S
     put_step t key value r same answers =
         let so = none_of command (asks.Put t key value) tests same are done in
         let last = no_page m t.node key.0 None in
         subst (λ k. Step m k (reply_of r) S) (sym same)
-        (answered_step m (asks.Put t key value) tt reply_of last r S (known_change c b shown.0 m is shown.1 t key last (subst InRange same range).0 ∙ first_none (tests_of c t key) last so) refl (λ why. refl) answers)
+        (answered_step m (asks.Put t key value) tt reply_of last r S (known_change c b shown.0 m is shown.1 t key last (subst InRange same range).0 ∙ first_none (tests_of c t key) last so) refl (λ why. refl) (λ why refused. late_write m t.node key.0 None why tt refused) answers)
 
     pub append_step : (t : TxnId) (key : Key) (bytes : List ℕ) (r : Result (Unit {0}) Reply) → command ≡ asks.Append t key bytes
-        → Answers (no_page m t.node key.0 (too_long (seen m t key.0) bytes)) r (S (dos (parts m (asks.Append t key bytes)) m)) (Stayed m (takes m (asks.Append t key bytes)) S) → Step m command (reply_of r) S
+        → Answers (no_page m t.node key.0 (too_long (seen m t key.0) bytes)) r (S (dos (parts m (asks.Append t key bytes)) m)) (S (dos (takes m (asks.Append t key bytes)) m)) → Step m command (reply_of r) S
     append_step t key bytes r same answers =
         let so = none_of command (asks.Append t key bytes) tests same are done in
         let last = no_page m t.node key.0 (too_long (seen m t key.0) bytes) in
         subst (λ k. Step m k (reply_of r) S) (sym same)
-        (answered_step m (asks.Append t key bytes) tt reply_of last r S (known_change c b shown.0 m is shown.1 t key last (subst InRange same range).0 ∙ first_none (tests_of c t key) last so) refl (λ why. refl) answers)
+        (answered_step m (asks.Append t key bytes) tt reply_of last r S (known_change c b shown.0 m is shown.1 t key last (subst InRange same range).0 ∙ first_none (tests_of c t key) last so) refl (λ why. refl) (λ why refused. late_write m t.node key.0 (too_long (seen m t key.0) bytes) why (late_length (seen m t key.0) bytes) refused) answers)
 
     pub delete_step : (t : TxnId) (key : Key) (r : Result Bool Reply) → command ≡ asks.Del t key
-        → AnswersWith (is_some (seen m t key.0)) (no_deletion m t key.0) r (S (dos (parts m (asks.Del t key)) m)) (Stayed m (takes m (asks.Del t key)) S) → Step m command (reply_deleted r) S
+        → AnswersWith (is_some (seen m t key.0)) (no_deletion m t key.0) r (S (dos (parts m (asks.Del t key)) m)) (S (dos (takes m (asks.Del t key)) m)) → Step m command (reply_deleted r) S
     delete_step t key r same answers =
         let so = none_of command (asks.Del t key) tests same are done in
         let last = no_deletion m t key.0 in
         subst (λ k. Step m k (reply_deleted r) S) (sym same)
-        (answered_step m (asks.Del t key) (is_some (seen m t key.0)) reply_deleted last r S (known_change c b shown.0 m is shown.1 t key last (subst InRange same range).0 ∙ first_none (tests_of c t key) last so) (deleted_is (seen m t key.0)) (λ why. refl) answers)
+        (answered_step m (asks.Del t key) (is_some (seen m t key.0)) reply_deleted last r S (known_change c b shown.0 m is shown.1 t key last (subst InRange same range).0 ∙ first_none (tests_of c t key) last so) (deleted_is (seen m t key.0)) (λ why. refl) (λ why refused. late_deletion m t key.0 why refused) answers)
 
     pub flush_step : (n : NodeId) (r : Result ℕ Reply) → command ≡ asks.Flush n → says_stop (reply_flushed r) ≡ false → IfErr r (λ why. says_stop why ≡ true) → IfOk r (λ count. count ≤ 16) → OnOk r (S m) → Step m command (reply_flushed r) S
     flush_step n r same runs stops few holds =

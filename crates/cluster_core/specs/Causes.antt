@@ -1,5 +1,5 @@
 -- Why a command on a record gives another answer than that it is done, whatever its devices hold.
-use Rattle.std.specs.Prelude.{◌≡◌, ◌≢◌, ◌⊎◌, ◌^◌, ◌%◌, ◌≤◌, ◌<◌, ⊤, ℕ, true, List, Option, Some, None, Ok}
+use Rattle.std.specs.Prelude.{◌≡◌, ◌≢◌, ◌⊎◌, ◌^◌, ◌≤◌, ◌<◌, ⊤, ℕ, true, List, Option, Some, None, Ok}
 use Rattle.std.specs.List.{position}
 use Rattle.sd_base.specs.declared.names.Key.{Key}
 use Rattle.sd_base.specs.declared.names.PageNo.{PageNo}
@@ -11,6 +11,7 @@ use Rattle.compensation.specs.Inverse.{content}
 use Rattle.private_log.specs.Content.{region_of}
 use Rattle.private_log.specs.Reading.{IsInRegion}
 use Rattle.sd_base.specs.Shape.{page_count}
+use Rattle.sd_base.specs.Places.{group_of, map_of_key, page_of_place, slot_of_key}
 use Rattle.state_ids.specs.Blocks.{HoldsPage, page_place}
 use Rattle.state_ids.specs.PageImage.{PageImage}
 use Rattle.script_text.specs.declared.command.Command.{Command}
@@ -20,20 +21,18 @@ use Rattle.script_text.specs.declared.reply.Reply.TheVariants as says
 use Rattle.txn_core.specs.declared.change.Change.{Change}
 use Rattle.txn_core.specs.declared.change.Change.TheVariants.{Put, Append, Delete}
 use Rattle.record_machine.specs.Commands.{TellsFlush}
-use Rattle.record_machine.specs.Machine.{group_of}
 use Rattle.cluster_core.specs.Answering.{reply_found}
 use Rattle.cluster_core.specs.Changes.{ShowsData, ShowsMap, length_refusal}
 use Rattle.cluster_core.specs.Cluster.{ClusterState}
-use Rattle.cluster_core.specs.FaultReply.{IsLogReply, IsToldDamaged}
 use Rattle.cluster_core.specs.Known.{room_in, state_of}
-use Rattle.cluster_core.specs.Places.{map_number, page_number}
+use Rattle.cluster_core.specs.LogReply.{IsLogReply, IsToldDamaged}
 use Rattle.cluster_core.specs.Ports.{says_stop}
 
 -- ---- what stops a command at the disk
 
 -- A page that a command on a key may need: the map page of its group, or a data page whose entry that has.
 abbrev pub IsPageFor : Shape → Key → PageNo → Type 0
-IsPageFor s key x = (x.0 ≡ map_number s key.0) ⊎ ((place : ℕ) × (place ≤ 251) × (x.0 ≡ page_number s (map_number s key.0) place))
+IsPageFor s key x = (x.0 ≡ map_of_key s key.0) ⊎ ((place : ℕ) × (place ≤ 251) × (x.0 ≡ page_of_place s (map_of_key s key.0) place))
 
 -- the page x couldn't be taken: the node stopped, of which HasCause says the rest, or the page's block is lost or damaged
 abbrev pub IsFaultOfPage : Shape → PageNo → Reply → Type 0
@@ -62,7 +61,7 @@ IsAtLimit c x = ((image : MapImage) × ShowsMap c x image × (2 ^ 63 ≤ image.i
 
 -- no place of the map page, which the node has cached, is the group's
 abbrev pub HasNoPage : ClusterState → Key → Type 0
-HasNoPage c key = (image : MapImage) × ShowsMap c (record { 0 = map_number c.shape key.0 }) image × (position (is_used_by (group_of key.0)) image.entries ≡ None)
+HasNoPage c key = (image : MapImage) × ShowsMap c (record { 0 = map_of_key c.shape key.0 }) image × (position (is_used_by (group_of key.0)) image.entries ≡ None)
 
 -- all places of the map page, which the node has cached, are used
 abbrev pub HasNoPlace : ClusterState → PageNo → Type 0
@@ -72,8 +71,8 @@ HasNoPlace c x = (image : MapImage) × ShowsMap c x image × (position is_free i
 -- have room for the write and the end of its transaction, and where the group has no page for that too.
 abbrev pub IsWriteRefusal : ClusterState → Key → Change → Reply → Type 0
 IsWriteRefusal c key what (says.Limit x) = IsPageFor c.shape key x × IsAtLimit c x
-IsWriteRefusal c key what (says.NoSpace x) = (x.0 ≡ map_number c.shape key.0) × HasNoPlace c x × HasNoPage c key
-IsWriteRefusal c key what (says.TooLong len) = (x : PageNo) × IsPageFor c.shape key x × (v : PageView) × ShowsData c x v × (length_refusal what (content v (key.0 % 16)) ≡ Some (says.TooLong len))
+IsWriteRefusal c key what (says.NoSpace x) = (x.0 ≡ map_of_key c.shape key.0) × HasNoPlace c x × HasNoPage c key
+IsWriteRefusal c key what (says.TooLong len) = (x : PageNo) × IsPageFor c.shape key x × (v : PageView) × ShowsData c x v × (length_refusal what (content v (slot_of_key key.0)) ≡ Some (says.TooLong len))
 IsWriteRefusal c key what (says.LogFull need room) = ((need ≡ 2) ⊎ ((need ≡ 3) × HasNoPage c key)) × (room ≡ room_in c.node) × (room < need)
 IsWriteRefusal c key what reply = ⊥
 
@@ -96,7 +95,7 @@ IsAbortFault s reply = ⊥
 
 -- What the node has in memory says so of the record: its group has no page, or the page shows it, or that there is none.
 abbrev pub IsFoundIn : ClusterState → Key → Option (List ℕ) → Type 0
-IsFoundIn c key found = ((found ≡ None) × HasNoPage c key) ⊎ ((x : PageNo) × IsPageFor c.shape key x × (v : PageView) × ShowsData c x v × (found ≡ content v (key.0 % 16)))
+IsFoundIn c key found = ((found ≡ None) × HasNoPage c key) ⊎ ((x : PageNo) × IsPageFor c.shape key x × (v : PageView) × ShowsData c x v × (found ≡ content v (slot_of_key key.0)))
 
 -- ---- the answers of each command
 

@@ -60,14 +60,17 @@ ShowsMap c x image = OnUp c.node (λ k seats. HasMap c.pool k.pages x image)
 abbrev pub ShowsData : ClusterState → PageNo → PageView → Type 0
 ShowsData c x v = OnUp c.node (λ k seats. HasPage c.pool k.pages x v)
 
--- The place of a map page that a group may get which has none, or why there is none: the page is at its limit, or all its
--- places are used.
+-- why a map page has no place for a group, where all its places are used: it is at its limit, or else it is full
+abbrev pub why_full : PageNo → MapImage → Reply
+why_full map image = if nat_le (2 ^ 63) image.ident then Limit map else NoSpace map
+
+-- the place of a map page that a group may get which has none, or why there is none
 abbrev pub place_or : Reply → Option ℕ → Result ℕ Reply
 place_or why None = Err why
 place_or why (Some place) = Ok place
 
 abbrev pub new_place : PageNo → MapImage → Result ℕ Reply
-new_place map image = if nat_le (2 ^ 63) image.ident then Err (Limit map) else place_or (NoSpace map) (position is_free image.entries)
+new_place map image = place_or (why_full map image) (position is_free image.entries)
 
 -- the transactions are those that they were, where both nodes are up
 abbrev pub KeepsSeats : Node → Node → Type 0

@@ -1,6 +1,7 @@
 -- What a dump finds, where it looks for the records from a key on.
-use Rattle.std.specs.Prelude.{◌⊎◌, ◌+◌, ◌*◌, ◌/◌, ◌^◌, ◌≤◌, ◌<◌, ⊤, ℕ, List, Option, Some, None, Result, Ok, Err, IfSome}
+use Rattle.std.specs.Prelude.{◌⊎◌, ◌+◌, ◌^◌, ◌≤◌, ◌<◌, ⊤, ℕ, List, Option, Some, None, Result, Ok, Err, IfSome}
 use Rattle.std.specs.List.{slice_get}
+use Rattle.sd_base.specs.Places.{first_key, group_of}
 use Rattle.space_map.specs.declared.map_entry.MapEntry.{MapEntry}
 use Rattle.space_map.specs.declared.map_entry.MapEntry.TheVariants.{Free, Used}
 use Rattle.script_text.specs.declared.reply.Reply.{Reply}
@@ -24,17 +25,17 @@ AreUnused first end entries = (place : ℕ) → place < 252 → IfSome (slice_ge
 
 -- the group of a key ends below this one
 abbrev pub group_end : ℕ → ℕ
-group_end key = 16 * (key / 16 + 1)
+group_end key = first_key ((group_of key).0 + 1)
 
 -- what is found in the page of a group: the next record, or that the group has none from this key on
 abbrev pub IsFoundInGroup : Machine → ℕ → Option Row → Type 0
 IsFoundInGroup m first (Some r) = IsNext m first r.key r.value
 IsFoundInGroup m first None = HasNoneIn m first (group_end first)
 
--- and what is found from there on: the next record, or that there is none up to a key further on
+-- what is found from a group on: the next record, or that there is none up to a group further on
 abbrev pub IsFoundFrom : Machine → ℕ → Found → Type 0
-IsFoundFrom m first (Record r) = IsNext m first r.key r.value
-IsFoundFrom m first (NoneBelow end) = HasNoneIn m first end
+IsFoundFrom m first (Record r) = IsNext m (first_key first) r.key r.value
+IsFoundFrom m first (NoneBelow end) = HasNoneIn m (first_key first) (first_key end)
 
 -- and what is found in all
 abbrev pub IsFirstRecord : Machine → ℕ → Option Row → Type 0
@@ -43,8 +44,8 @@ IsFirstRecord m first None = HasNone m first
 
 -- a record that is found stands in what the node has in memory, and what is found leads on
 abbrev pub LeadsOn : ClusterState → ℕ → Found → Type 0
-LeadsOn c first (Record r) = (first ≤ r.key.0) × IsFoundIn c r.key (Some r.value)
-LeadsOn c first (NoneBelow end) = (first < end) × (end ≤ 2 ^ 32)
+LeadsOn c first (Record r) = (first_key first ≤ r.key.0) × IsFoundIn c r.key (Some r.value)
+LeadsOn c first (NoneBelow end) = (first < end) × (end ≤ 2 ^ 28)
 
 -- the reply where the next record was asked for
 abbrev pub reply_row : Result (Option Row) Reply → Reply

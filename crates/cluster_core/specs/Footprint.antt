@@ -10,17 +10,16 @@ use Rattle.space_map.specs.Image.{MapImage}
 use Rattle.private_log.specs.Content.{place, region_of}
 use Rattle.state_ids.specs.Blocks.{page_place}
 use Rattle.node_cache.specs.Cache.{is_cached}
-use Rattle.node_cache.specs.Room.{map_of}
 use Rattle.record_machine.specs.Commands.{target}
-use Rattle.record_machine.specs.Machine.{Machine, group_of, home, map_of as map_of_key}
+use Rattle.record_machine.specs.Machine.{Machine, home}
 use Rattle.script_text.specs.declared.command.Command.{Command}
 use Rattle.script_text.specs.declared.command.Command.TheVariants as asks
 use Rattle.script_text.specs.declared.reply.Reply.{Reply}
 use Rattle.script_text.specs.declared.reply.Reply.TheVariants as says
 use Rattle.sd_base.specs.declared.names.Key.{Key}
+use Rattle.sd_base.specs.Places.{group_of, map_of_data, map_of_key, page_of_place}
 use Rattle.cluster_core.specs.Changes.{ShowsMap}
 use Rattle.cluster_core.specs.Cluster.{ClusterState}
-use Rattle.cluster_core.specs.Places.{map_number, page_number}
 use Rattle.cluster_core.specs.Ports.{OnUp}
 
 -- each block that isn't one of the ring of node 1's log has the content that it had
@@ -46,7 +45,7 @@ FillsNoBlock c count = OnUp c.node (λ d seats. d.log.tail % 6 + count < 6)
 
 -- the data page of this place of a map page is cached
 abbrev pub HasPlace : ClusterState → ℕ → ℕ → Type 0
-HasPlace c map place = OnUp c.node (λ d seats. IsTrue (is_cached (record { 0 = page_number c.shape map place }) d))
+HasPlace c map place = OnUp c.node (λ d seats. IsTrue (is_cached (record { 0 = page_of_place c.shape map place }) d))
 
 -- it is, and so many records can be logged in memory alone
 abbrev pub CanWriteAt : ClusterState → ℕ → ℕ → ℕ → Type 0
@@ -56,14 +55,14 @@ CanWriteAt c map count place = HasPlace c map place × FillsNoBlock c count
 -- that the group has.
 pub record IsAtHandToDelete (c : ClusterState) (key : ℕ) : Type 0 where
   pub image : MapImage
-  pub map : ShowsMap c (record { 0 = map_number c.shape key }) image
-  pub used : IfSome (position (is_used_by (group_of key)) image.entries) (CanWriteAt c (map_number c.shape key) 1)
+  pub map : ShowsMap c (record { 0 = map_of_key c.shape key }) image
+  pub used : IfSome (position (is_used_by (group_of key)) image.entries) (CanWriteAt c (map_of_key c.shape key) 1)
 
 -- And so is what a write needs: where the group has no page it goes into the first free one, which takes a record more to
 -- come into use.
 pub record IsAtHand (c : ClusterState) (key : ℕ) : Type 0 where
   pub there : IsAtHandToDelete c key
-  pub free : position (is_used_by (group_of key)) there.image.entries ≡ None → IfSome (position is_free there.image.entries) (CanWriteAt c (map_number c.shape key) 2)
+  pub free : position (is_used_by (group_of key)) there.image.entries ≡ None → IfSome (position is_free there.image.entries) (CanWriteAt c (map_of_key c.shape key) 2)
 
 -- ---- pages that are written to make room
 
@@ -84,7 +83,7 @@ KeepsPage s y old new = (new (page_place s y)).current ≡ (old (page_place s y)
 pub record MadeRoom (x : PageNo) (c d : ClusterState) (old new : ℕ → BlockState) : Type 0 where
   pub came : (y : PageNo) → HasCached d y → (y ≡ x) ⊎ HasCached c y
   pub full : IsFull c → IsFull d
-  pub room : (y : PageNo) → y.0 < page_count c.shape → KeepsPage c.shape y old new ⊎ (HasCached c y × IsFull d × (c.shape.maps ≤ x.0 → y ≢ map_of c.shape x))
+  pub room : (y : PageNo) → y.0 < page_count c.shape → KeepsPage c.shape y old new ⊎ (HasCached c y × IsFull d × (c.shape.maps ≤ x.0 → y ≢ map_of_data c.shape x))
 
 -- a page whose block has changed was in the cache before, and the cache is full now
 abbrev pub MakesRoomAlone : ClusterState → ClusterState → (ℕ → BlockState) → (ℕ → BlockState) → Type 0
@@ -92,7 +91,7 @@ MakesRoomAlone c d old new = (y : PageNo) → y.0 < page_count c.shape → Keeps
 
 -- the map page of the key's group is in the cache, and this page is, if there is one
 abbrev pub HasTaken : ClusterState → Machine → ℕ → Option ℕ → Type 0
-HasTaken c m key x = HasCached c (record { 0 = map_of_key m key }) × IfSome x (λ n. HasCached c (record { 0 = n }))
+HasTaken c m key x = HasCached c (record { 0 = map_of_key m.shape key }) × IfSome x (λ n. HasCached c (record { 0 = n }))
 
 -- no page comes into the cache or goes, and no page's block changes
 pub record KeepsCache (c d : ClusterState) (old new : ℕ → BlockState) : Type 0 where

@@ -5,6 +5,7 @@ use Rattle.sd_base.specs.Disk.{BlockState, MayHold}
 use Rattle.sd_base.specs.Shape.{page_count}
 use Rattle.sd_base.specs.declared.names.PageNo.{PageNo}
 use Rattle.sd_base.specs.declared.shape.Shape.{Shape}
+use Rattle.sd_base.specs.Places.{map_of_data, place_of_page}
 use Rattle.space_map.specs.declared.map_entry.MapEntry.{MapEntry}
 use Rattle.space_map.specs.Entry.{ident_of}
 use Rattle.log_record.specs.declared.record.LogRecord.{LogRecord}
@@ -18,7 +19,6 @@ use Rattle.state_ids.specs.PageImage.{PageImage, data_page, in_life, map_page}
 use Rattle.state_ids.specs.Held.{Shows}
 use Rattle.state_ids.specs.Blocks.{HoldsPage, page_place}
 use Rattle.node_cache.specs.Cache.{CacheState, is_changed}
-use Rattle.node_cache.specs.Room.{map_of, place_in_map}
 use Rattle.txn_core.specs.Seats.{OpenTxn, SeatsState, txn_in}
 use Rattle.txn_core.specs.Told.{AreTold, HasRecords, NamesEarlier}
 use Rattle.record_machine.specs.Machine.{Deed, Machine}
@@ -34,7 +34,7 @@ image_in s p x = if nat_lt x.0 s.maps then map_page (p.maps x.0) else data_page 
 
 -- the map entry of a data page
 abbrev pub entry_in : Shape → Plain → PageNo → Option MapEntry
-entry_in s p x = if nat_lt x.0 s.maps then None else slice_get (p.maps (map_of s x).0).entries (place_in_map s x)
+entry_in s p x = if nat_lt x.0 s.maps then None else slice_get (p.maps (map_of_data s x).0).entries (place_of_page s x)
 
 -- whatever a stop leaves of the page's block, it stands for the page as it is at present
 abbrev pub IsOnDisk : Shape → (ℕ → BlockState) → Plain → PageNo → Type 0

@@ -1,20 +1,22 @@
-ghost use Rattle.std.specs.Prelude.{◌≡◌, ◌⊎◌, ◌<◌, ◌≤◌, ◌∷◌, [], true, Some, IsTrue, IfErr, OnOk};
+//! An abort: what a transaction has written is taken back, once all pages for it are there.
+
+ghost use Rattle.std.specs.Prelude.{◌≡◌, ◌⊎◌, ◌<◌, ◌≤◌, true, Some, IsTrue, IfErr, OnOk};
 ghost use Rattle.sd_base.specs.Calls.{Keeps, Narrows};
 ghost use Rattle.sd_base.specs.Shape.{page_count};
+ghost use Rattle.sd_base.specs.Places.{map_of_data};
 ghost use Rattle.private_log.specs.Content.{region_of};
 ghost use Rattle.private_log.specs.Reading.{contents};
 ghost use Rattle.node_cache.specs.Cache.{is_cached};
-ghost use Rattle.node_cache.specs.Room.{map_of};
 ghost use Rattle.txn_core.specs.Seats.{OpenTxn, is_busy, txn_in};
 ghost use Rattle.script_text.specs.declared.command.Command.TheVariants as asks;
 ghost use Rattle.record_machine.specs.Commands.{backs, parts};
 ghost use Rattle.record_machine.specs.Machine.{Deed, Machine, Write, newest_of};
-ghost use Rattle.record_machine.specs.Parts.{Back, Seal, Unlock, dos, one};
+ghost use Rattle.record_machine.specs.Parts.{Back, dos, one};
 ghost use Rattle.cluster_core.specs.Aborts.{IsToldOfAbort};
 ghost use Rattle.cluster_core.specs.Causes.{IsAbortFault, IsFaultOfPage, IsToldOfPages};
 ghost use Rattle.cluster_core.specs.Changes.{KeepsSeats, LeavesLess};
-ghost use Rattle.cluster_core.specs.FaultReply.{IsLogReply};
 ghost use Rattle.cluster_core.specs.Footprint.{NarrowsBesides};
+ghost use Rattle.cluster_core.specs.LogReply.{IsLogReply};
 ghost use Rattle.cluster_core.specs.Ports.{HasCause, IsQuiet, IsServed, OnUp, is_up, says_stop};
 ghost use Rattle.cluster_core.specs.Shows.{IsShown};
 
@@ -23,6 +25,7 @@ use crate::halting::give_up;
 use crate::node::Node;
 use script_text::Reply;
 use sd_base::{Disk, PageNo, TxnId};
+use txn_core::Ending;
 
 impl Cluster {
     /// Takes the page of an update of the transaction, after its map page, and tests that it has room for
@@ -185,7 +188,7 @@ impl Cluster {
         ensures besides { IsTrue D.told → NarrowsBesides self.old.shape (D.state disk.old).block (D.state disk.new).block }
         ensures vault_outcomes { IsTrue V.told → Narrows (V.state vault.old).block (V.state vault.new).block }
         ensures cause { IfErr result (λ why. HasCause why (D.state disk.old) (D.state disk.new)) }
-        ensures fault { IfErr result (λ why. IsFaultOfPage self.old.shape (map_of self.old.shape x) why ⊎ IsFaultOfPage self.old.shape x why) }
+        ensures fault { IfErr result (λ why. IsFaultOfPage self.old.shape (map_of_data self.old.shape x) why ⊎ IsFaultOfPage self.old.shape x why) }
         ensures told { IsTrue D.told → IfErr result (IsToldOfPages self.old.shape (contents (D.state disk.new).block)) }
         ensures shape { self.new.shape ≡ self.old.shape }
         ensures up { OnOk result (is_up self.new.node ≡ true) }
@@ -278,56 +281,6 @@ impl Cluster {
         Ok(())
     }
 
-    /// Ends a transaction of which nothing is left to take back, and releases its locks once the end is
-    /// stable.
-    fn end_abort<D: Disk, V: Disk>(
-        &mut self,
-        disk: &mut D,
-        vault: &mut V,
-        t: TxnId,
-    ) -> Result<(), Reply>
-        requires up { is_up self.old.node ≡ true }
-        requires node { t.node.0 ≡ 1 }
-        requires seat { t.seat ≤ 7 }
-        requires busy { OnUp self.old.node (λ c seats. IsTrue (is_busy seats t.seat)) }
-        requires nothing { OnUp self.old.node (λ c seats. (u : OpenTxn) → txn_in seats t.seat ≡ Some u → u.left ≡ 0) }
-        requires served { IsServed self.old (D.state disk.old) (V.state vault.old) }
-        requires quiet { IsTrue D.told → IsQuiet self.old (D.state disk.old).block }
-        ensures served { IsServed self.new (D.state disk.new) (V.state vault.new) }
-        ensures quiet { IsTrue D.told → IsQuiet self.new (D.state disk.new).block }
-        ensures keeps { Keeps 1 (D.state disk.old) (D.state disk.new) }
-        ensures vault_keeps { Keeps 1 (V.state vault.old) (V.state vault.new) }
-        ensures besides { IsTrue D.told → NarrowsBesides self.old.shape (D.state disk.old).block (D.state disk.new).block }
-        ensures vault_outcomes { IsTrue V.told → Narrows (V.state vault.old).block (V.state vault.new).block }
-        ensures cause { IfErr result (λ why. HasCause why (D.state disk.old) (D.state disk.new)) }
-        ensures shape { self.new.shape ≡ self.old.shape }
-        ensures shows { OnOk result (IsTrue D.told → (m : Machine) → IsShown self.old (D.state disk.old).block m → IsShown self.new (D.state disk.new).block (dos (Seal t ∷ Unlock t ∷ []) m)) }
-        ensures stopped { IfErr result (λ why. says_stop why ≡ true) }
-    {
-        let fault = match &mut self.node {
-            Node::Up(cache, seats) => {
-                let done = seats.end_abort(disk, cache, t.seat);
-                cache.law_of_pages();
-                match done {
-                    Ok(()) => {
-                        self.shared.locks.release_txn(t);
-                        return Ok(());
-                    }
-                    Err(fault) => fault,
-                }
-            }
-            Node::Idle | Node::Down => unreachable!(),
-        };
-        Err(give_up(
-            &self.shape,
-            &mut self.node,
-            &mut self.shared,
-            disk,
-            vault,
-            fault,
-        ))
-    }
-
     /// Gives up an open transaction. The pages of all its updates are taken first, so that nothing is taken
     /// back where one is lost or damaged; then the updates are taken back, the newest first, the end becomes
     /// stable, and its locks are released.
@@ -358,6 +311,6 @@ impl Cluster {
     {
         self.take_updates(disk, vault, t)?;
         self.take_back_updates(disk, vault, t)?;
-        self.end_abort(disk, vault, t)
+        self.end(disk, vault, t, Ending::Abort)
     }
 }

@@ -1,6 +1,9 @@
-ghost use Rattle.std.specs.Prelude.{◌≡◌, ◌≤◌, ◌<◌, ◌+◌, ◌^◌, ◌%◌, true, ℕ, None, Some, IsTrue, IsOk, IfErr, OnOk, slice_index_or};
+//! One logged change of a cached page: of a slot of a data page, or of a place of a map page.
+
+ghost use Rattle.std.specs.Prelude.{◌≡◌, ◌≤◌, ◌<◌, ◌+◌, ◌^◌, true, ℕ, None, Some, IsTrue, IsOk, IfErr, OnOk, slice_index_or};
 ghost use Rattle.sd_base.specs.Calls.{Keeps, Narrows};
 ghost use Rattle.sd_base.specs.Shape.{page_count};
+ghost use Rattle.sd_base.specs.Places.{group_of, map_of_key, slot_of_key};
 ghost use Rattle.page_image.specs.declared.page_view.PageView.{PageView};
 ghost use Rattle.space_map.specs.declared.map_entry.MapEntry.TheVariants.{Free};
 ghost use Rattle.space_map.specs.Entry.{is_free};
@@ -10,17 +13,17 @@ ghost use Rattle.txn_core.specs.Seats.{is_busy, owed};
 ghost use Rattle.txn_core.specs.Updates.{FitsSlotOf, HasPage};
 ghost use Rattle.record_locks.specs.declared.mode.Mode.TheVariants as locks;
 ghost use Rattle.record_locks.specs.Held.{mode_of};
-ghost use Rattle.record_machine.specs.Machine.{Machine, Write, free_place, group_of, home, map_of, seen};
+ghost use Rattle.record_machine.specs.Machine.{Machine, Write, free_place, home, seen};
 ghost use Rattle.record_machine.specs.Parts.{Change as Changed, Use, one};
 ghost use Rattle.cluster_core.specs.Changes.{HasMap, UsesPlace, value_after};
 ghost use Rattle.cluster_core.specs.Footprint.{FillsNoBlock, KeepsCache, NarrowsBesides};
 ghost use Rattle.cluster_core.specs.Ports.{HasCause, IsQuiet, IsServed, OnUp, is_up, says_stop};
 ghost use Rattle.cluster_core.specs.Shows.{IsShown};
 
+use crate::cached_pages::map_identifier;
 use crate::cluster::Cluster;
 use crate::halting::give_up;
 use crate::node::Node;
-use crate::reading::map_identifier;
 use log_record::LogRecord;
 use script_text::Reply;
 use sd_base::{Disk, GroupNo, PageNo, TxnId};
@@ -56,7 +59,7 @@ impl Cluster {
         ensures cause { IfErr result (λ why. HasCause why (D.state disk.old) (D.state disk.new)) }
         ensures shape { self.new.shape ≡ self.old.shape }
         ensures up { OnOk result (is_up self.new.node ≡ true) }
-        ensures shows { OnOk result (IsTrue D.told → (m : Machine) (w : Write) → home m w.key ≡ Some w.page → w.page ≡ x.0 → w.key % 16 ≡ slot → mode_of m.locks (record { 0 = w.key }) t ≡ Some locks.Write → w.value ≡ value_after what.now (seen m t w.key)
+        ensures shows { OnOk result (IsTrue D.told → (m : Machine) (w : Write) → home m w.key ≡ Some w.page → w.page ≡ x.0 → slot_of_key w.key ≡ slot → mode_of m.locks (record { 0 = w.key }) t ≡ Some locks.Write → w.value ≡ value_after what.now (seen m t w.key)
             → IsShown self.old (D.state disk.old).block m → IsShown self.new (D.state disk.new).block (one (Changed t w) m)) }
         ensures stopped { IfErr result (λ why. says_stop why ≡ true) }
         ensures pages { OnOk result (IsTrue D.told → KeepsCache self.old self.new (D.state disk.old).block (D.state disk.new).block) }
@@ -112,7 +115,7 @@ impl Cluster {
         ensures up { OnOk result (is_up self.new.node ≡ true) }
         ensures locks { OnOk result (self.new.locks ≡ self.old.locks) }
         ensures kept { OnOk result (OnUp self.old.node (λ c old. OnUp self.new.node (λ d new. UsesPlace self.old.shape.maps self.old.pool self.new.pool c d old new))) }
-        ensures shows { OnOk result (IsTrue D.told → (m : Machine) (key : ℕ) → home m key ≡ None → free_place m key ≡ Some place → group_of key ≡ group → map_of m key ≡ map.0
+        ensures shows { OnOk result (IsTrue D.told → (m : Machine) (key : ℕ) → home m key ≡ None → free_place m key ≡ Some place → group_of key ≡ group → map_of_key m.shape key ≡ map.0
             → IsShown self.old (D.state disk.old).block m → IsShown self.new (D.state disk.new).block (one (Use 1 map.0 place group) m)) }
         ensures stopped { IfErr result (λ why. says_stop why ≡ true) }
         ensures pages { OnOk result (IsTrue D.told → KeepsCache self.old self.new (D.state disk.old).block (D.state disk.new).block) }

@@ -1,3 +1,6 @@
+//! Why a command is refused for what is in memory, before the disk is read.
+//! Also what `stat` answers, since it needs no disk either.
+
 ghost use Rattle.std.specs.Prelude.{◌≡◌, ◌≤◌, ◌∷◌, [], OnErr, OnOk};
 ghost use Rattle.script_text.specs.Command.{InRange};
 ghost use Rattle.record_machine.specs.Commands.{first_of};

@@ -1,3 +1,5 @@
+//! A store that is open: its node, and what all nodes share in memory.
+
 use crate::node::Node;
 use frame_pool::Pool;
 use page_owner::Owners;

@@ -1,10 +1,12 @@
+//! The command `del`: the record of a key is deleted, if there is one.
+
 ghost use Rattle.std.specs.Prelude.{◌≡◌, ◌⊎◌, ◌≤◌, ◌++◌, ◌∷◌, [], true, false, None, IsTrue, IfErr, is_some, OnOk};
 ghost use Rattle.sd_base.specs.Calls.{Keeps, Narrows};
 ghost use Rattle.private_log.specs.Reading.{contents};
 ghost use Rattle.record_locks.specs.declared.mode.Mode.TheVariants as locks;
 ghost use Rattle.record_locks.specs.Answer.{lock_answer, may_take};
 ghost use Rattle.script_text.specs.declared.command.Command.TheVariants as asks;
-ghost use Rattle.record_machine.specs.Commands.{Stayed, no_deletion, parts, takes};
+ghost use Rattle.record_machine.specs.Commands.{no_deletion, parts, takes};
 ghost use Rattle.record_machine.specs.Machine.{Machine, seen, home};
 ghost use Rattle.record_machine.specs.Parts.{dos};
 ghost use Rattle.cluster_core.specs.Answering.{AnswersWith, reply_deleted};
@@ -50,7 +52,7 @@ impl Cluster {
         ensures told { IsTrue D.told → IfErr result (IsToldOfPages self.old.shape (contents (D.state disk.new).block)) }
         ensures shape { self.new.shape ≡ self.old.shape }
         ensures step { IsTrue D.told → says_stop (reply_deleted result) ≡ false → (m : Machine) → IsShown self.old (D.state disk.old).block m
-            → AnswersWith (is_some (seen m t key.0)) (no_deletion m t key.0) result (IsShown self.new (D.state disk.new).block (dos (parts m (asks.Del t key)) m)) (Stayed m (takes m (asks.Del t key)) (IsShown self.new (D.state disk.new).block)) }
+            → AnswersWith (is_some (seen m t key.0)) (no_deletion m t key.0) result (IsShown self.new (D.state disk.new).block (dos (parts m (asks.Del t key)) m)) (IsShown self.new (D.state disk.new).block (dos (takes m (asks.Del t key)) m)) }
         ensures taken { OnOk result (IsTrue D.told → (m : Machine) → IsShown self.old (D.state disk.old).block m → HasTaken self.new m key.0 (home m key.0)) }
         ensures room { OnOk result (IsTrue D.told → MakesRoomAlone self.old self.new (D.state disk.old).block (D.state disk.new).block) }
         ensures memory { IsAtHandToDelete self.old key.0 → (disk.new ≡ disk.old) × (vault.new ≡ vault.old) }

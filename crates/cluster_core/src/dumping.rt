@@ -1,5 +1,8 @@
-ghost use Rattle.std.specs.Prelude.{◌≡◌, ◌≢◌, ◌/◌, ◌%◌, ◌^◌, ◌≤◌, ◌<◌, true, false, ℕ, Some, None, IsTrue, IfErr, IfNone, IfOk, IfSome, OnOk};
+//! The answers to `dump`, one record at a time and in the order of the keys.
+
+ghost use Rattle.std.specs.Prelude.{◌≡◌, ◌≢◌, ◌^◌, ◌≤◌, ◌<◌, true, false, ℕ, Some, None, IsTrue, IfErr, IfNone, IfOk, IfSome, OnOk};
 ghost use Rattle.sd_base.specs.Calls.{Keeps, Narrows};
+ghost use Rattle.sd_base.specs.Places.{first_key, group_of, slot_of_key};
 ghost use Rattle.page_image.specs.declared.page_view.PageView.{PageView};
 ghost use Rattle.compensation.specs.Inverse.{content};
 ghost use Rattle.node_cache.specs.Cache.{is_cached};
@@ -18,15 +21,14 @@ ghost use Rattle.cluster_core.specs.Ports.{HasCause, IsQuiet, IsServed, OnUp, is
 ghost use Rattle.cluster_core.specs.Shows.{IsShown};
 
 use crate::cluster::Cluster;
-use crate::places::slot_of;
 use script_text::{Command, Reply};
-use sd_base::{Disk, Key, NodeId, PageNo, Value};
+use sd_base::{Disk, GroupNo, KEYS_PER_GROUP, Key, MAX_GROUP, NodeId, PageNo, Value};
 
 /// The groups end here: that of the greatest key is the last one.
-const GROUPS: u32 = 1 << 28;
+const GROUPS: u32 = MAX_GROUP + 1;
 
-/// And the keys end here.
-const KEYS: u64 = 1 << 32;
+/// How many keys a group has.
+const GROUP_KEYS: u64 = KEYS_PER_GROUP as u64;
 
 /// A record, with its key.
 #[derive(Clone, Copy)]
@@ -35,12 +37,12 @@ pub(crate) struct Row {
     value: Value,
 }
 
-/// What is found where the records from a key on are looked for.
+/// What is found where the records from a group on are looked for.
 pub(crate) enum Found {
     /// The first record.
     Record(Row),
-    /// No record has a key below this one, and the search is to go on from there.
-    NoneBelow(u64),
+    /// No group below this one has a record, and the search is to go on from there.
+    NoneBelow(u32),
 }
 
 /// The reply where the next record is asked for.
@@ -107,15 +109,15 @@ impl Cluster {
         requires up { is_up self.now.node ≡ true }
         requires data { self.now.shape.maps ≤ x.0 }
         requires cached { OnUp self.now.node (λ c seats. IsTrue (is_cached x c)) }
-        ensures some { IfSome result (λ r. (first.0 ≤ r.key.0) × (r.key.0 / 16 ≡ first.0 / 16) × ((v : PageView) → ShowsData self.now x v → content v (r.key.0 % 16) ≡ Some r.value)) }
-        ensures least { IfSome result (λ r. (v : PageView) → ShowsData self.now x v → (k : ℕ) → first.0 ≤ k → k < r.key.0 → content v (k % 16) ≡ None) }
-        ensures none { IfNone result ((v : PageView) → ShowsData self.now x v → (k : ℕ) → first.0 ≤ k → k < group_end first.0 → content v (k % 16) ≡ None) }
+        ensures some { IfSome result (λ r. (first.0 ≤ r.key.0) × ((group_of r.key.0).0 ≡ (group_of first.0).0) × ((v : PageView) → ShowsData self.now x v → content v (slot_of_key r.key.0) ≡ Some r.value)) }
+        ensures least { IfSome result (λ r. (v : PageView) → ShowsData self.now x v → (k : ℕ) → first.0 ≤ k → k < r.key.0 → content v (slot_of_key k) ≡ None) }
+        ensures none { IfNone result ((v : PageView) → ShowsData self.now x v → (k : ℕ) → first.0 ≤ k → k < group_end first.0 → content v (slot_of_key k) ≡ None) }
         ensures there { (v : PageView) × ShowsData self.now x v }
     {
-        let end = 16 * (u64::from(first.0) / 16 + 1);
+        let end = GroupNo(first.group().0 + 1).first_key();
         for k in u64::from(first.0)..end {
             let key = Key(k as u32);
-            if let Some(value) = self.slot_of(x, slot_of(key)) {
+            if let Some(value) = self.slot_of(x, key.slot()) {
                 return Some(Row { key, value });
             }
         }
@@ -157,18 +159,18 @@ impl Cluster {
         }
     }
 
-    /// Looks for the first record from a key on, in the page of the least group that may have it.
+    /// Looks for the first record from a group on, in the page of the least one that has a page.
     fn find_from<D: Disk, V: Disk>(
         &mut self,
         disk: &mut D,
         vault: &mut V,
-        first: u64,
+        first: u32,
     ) -> Result<Found, Reply>
         requires up { is_up self.old.node ≡ true }
         requires served { IsServed self.old (D.state disk.old) (V.state vault.old) }
         requires quiet { IsTrue D.told → IsQuiet self.old (D.state disk.old).block }
         requires free { least_where (λ l mode. true) self.old.locks ≡ None }
-        requires range { first < 2 ^ 32 }
+        requires range { first < 2 ^ 28 }
         ensures served { IsServed self.new (D.state disk.new) (V.state vault.new) }
         ensures quiet { IsTrue D.told → IsQuiet self.new (D.state disk.new).block }
         ensures keeps { Keeps 1 (D.state disk.old) (D.state disk.new) }
@@ -186,18 +188,55 @@ impl Cluster {
         ensures shows { OnOk result (IsTrue D.told → (m : Machine) → IsShown self.old (D.state disk.old).block m → IsShown self.new (D.state disk.new).block m) }
         ensures stopped { IfErr result (λ why. IsTrue D.told → (m : Machine) → IsShown self.old (D.state disk.old).block m → says_stop why ≡ true) }
     {
-        let group = u64::from(self.find_group(disk, vault, (first / 16) as u32)?);
-        let first = first.max(16 * group);
-        if first == KEYS {
-            return Ok(Found::NoneBelow(KEYS));
+        let group = self.find_group(disk, vault, first)?;
+        if group == GROUPS {
+            return Ok(Found::NoneBelow(GROUPS));
         }
-        match self.find_in_group(disk, vault, Key(first as u32))? {
+        match self.find_in_group(disk, vault, Key(GroupNo(group).first_key() as u32))? {
             Some(row) => Ok(Found::Record(row)),
-            None => Ok(Found::NoneBelow(16 * (group + 1))),
+            None => Ok(Found::NoneBelow(group + 1)),
         }
     }
 
-    /// The first record from a key on.
+    /// The first record from a group on.
+    fn find_onward<D: Disk, V: Disk>(
+        &mut self,
+        disk: &mut D,
+        vault: &mut V,
+        first: u32,
+    ) -> Result<Option<Row>, Reply>
+        requires up { is_up self.old.node ≡ true }
+        requires served { IsServed self.old (D.state disk.old) (V.state vault.old) }
+        requires quiet { IsTrue D.told → IsQuiet self.old (D.state disk.old).block }
+        requires free { least_where (λ l mode. true) self.old.locks ≡ None }
+        requires range { first ≤ 2 ^ 28 }
+        ensures served { IsServed self.new (D.state disk.new) (V.state vault.new) }
+        ensures quiet { IsTrue D.told → IsQuiet self.new (D.state disk.new).block }
+        ensures keeps { Keeps 1 (D.state disk.old) (D.state disk.new) }
+        ensures vault_keeps { Keeps 1 (V.state vault.old) (V.state vault.new) }
+        ensures besides { IsTrue D.told → NarrowsBesides self.old.shape (D.state disk.old).block (D.state disk.new).block }
+        ensures vault_outcomes { IsTrue V.told → Narrows (V.state vault.old).block (V.state vault.new).block }
+        ensures cause { IfErr result (λ why. HasCause why (D.state disk.old) (D.state disk.new)) }
+        ensures fault { IfErr result (IsDumpFault self.old.shape) }
+        ensures told { IsTrue D.told → IfErr result (IsToldOfPages self.old.shape (contents (D.state disk.new).block)) }
+        ensures shape { self.new.shape ≡ self.old.shape }
+        ensures read { IfOk result (λ found. IfSome found (λ r. (first_key first ≤ r.key.0) × IsFoundIn self.new r.key (Some r.value))) }
+        ensures found { IfOk result (λ found. IsTrue D.told → (m : Machine) → IsShown self.old (D.state disk.old).block m → IsFirstRecord m (first_key first) found) }
+        ensures shows { OnOk result (IsTrue D.told → (m : Machine) → IsShown self.old (D.state disk.old).block m → IsShown self.new (D.state disk.new).block m) }
+        ensures stopped { IfErr result (λ why. IsTrue D.told → (m : Machine) → IsShown self.old (D.state disk.old).block m → says_stop why ≡ true) }
+    {
+        let mut first = first;
+        while first < GROUPS {
+            match self.find_from(disk, vault, first)? {
+                Found::Record(row) => return Ok(Some(row)),
+                Found::NoneBelow(end) => first = end,
+            }
+        }
+        Ok(None)
+    }
+
+    /// The first record from a key on. Where the key isn't the first one of its group, it looks in that
+    /// group's page first, and only then goes over the map pages, from the next group on.
     fn find_record<D: Disk, V: Disk>(
         &mut self,
         disk: &mut D,
@@ -224,14 +263,14 @@ impl Cluster {
         ensures shows { OnOk result (IsTrue D.told → (m : Machine) → IsShown self.old (D.state disk.old).block m → IsShown self.new (D.state disk.new).block m) }
         ensures stopped { IfErr result (λ why. IsTrue D.told → (m : Machine) → IsShown self.old (D.state disk.old).block m → says_stop why ≡ true) }
     {
-        let mut first = first;
-        while first < KEYS {
-            match self.find_from(disk, vault, first)? {
-                Found::Record(row) => return Ok(Some(row)),
-                Found::NoneBelow(end) => first = end,
-            }
+        let group = (first / GROUP_KEYS) as u32;
+        if first % GROUP_KEYS == 0 {
+            return self.find_onward(disk, vault, group);
         }
-        Ok(None)
+        match self.find_in_group(disk, vault, Key(first as u32))? {
+            Some(row) => Ok(Some(row)),
+            None => self.find_onward(disk, vault, group + 1),
+        }
     }
 
     /// Answers a dump, one record at a time: the record with the least key behind this one, or the least

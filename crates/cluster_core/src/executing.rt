@@ -1,3 +1,5 @@
+//! A command is refused or executed here, and what came of it becomes its reply.
+
 ghost use Rattle.std.specs.Prelude.{◌≡◌, true, false, ℕ, List, Some, None, IsSome, IsTrue};
 ghost use Rattle.sd_base.specs.Calls.{Keeps, Narrows};
 ghost use Rattle.script_text.specs.Command.{InRange};
@@ -19,7 +21,7 @@ ghost use Rattle.cluster_core.specs.Shows.{IsShown};
 use crate::cluster::Cluster;
 use script_text::{Command, Reply};
 use sd_base::{Disk, Key, NodeId, TxnId, Value};
-use txn_core::Change;
+use txn_core::{Change, Ending};
 
 /// The reply to a command of which nothing is asked but that it is done.
 fn reply_of(done: Result<(), Reply>) -> Reply
@@ -116,7 +118,7 @@ impl Cluster {
                 reply_of(self.write_record(disk, vault, t, key, &Change::Append(bytes)))
             }
             Command::Del(t, key) => reply_deleted(self.delete(disk, vault, t, key)),
-            Command::Commit(t) => reply_of(self.commit(disk, vault, t)),
+            Command::Commit(t) => reply_of(self.end(disk, vault, t, Ending::Commit)),
             Command::Abort(t) => reply_of(self.abort(disk, vault, t)),
             Command::Flush(_) => reply_flushed(self.flush(disk, vault)),
             Command::Stat(_) => self.stat(),

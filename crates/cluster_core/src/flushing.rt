@@ -1,3 +1,5 @@
+//! The command `flush`: the log is made stable, and then the changed pages are written.
+
 ghost use Rattle.std.specs.Prelude.{◌≡◌, ◌≤◌, true, IsTrue, IfErr, IfOk, OnOk};
 ghost use Rattle.std.specs.List.{count_by};
 ghost use Rattle.sd_base.specs.Calls.{Keeps, Narrows};

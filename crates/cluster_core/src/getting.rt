@@ -1,5 +1,8 @@
-ghost use Rattle.std.specs.Prelude.{◌≡◌, ◌≤◌, ◌%◌, true, ℕ, None, IsTrue, IfErr, IfNone, IfOk, IfSome, OnOk};
+//! The command `get`: the record of a key as a transaction sees it.
+
+ghost use Rattle.std.specs.Prelude.{◌≡◌, ◌≤◌, true, ℕ, None, IsTrue, IfErr, IfNone, IfOk, IfSome, OnOk};
 ghost use Rattle.sd_base.specs.Calls.{Keeps, Narrows};
+ghost use Rattle.sd_base.specs.Places.{slot_of_key};
 ghost use Rattle.page_image.specs.declared.page_view.PageView.{PageView};
 ghost use Rattle.compensation.specs.Inverse.{content};
 ghost use Rattle.node_cache.specs.Cache.{is_cached};
@@ -18,7 +21,6 @@ ghost use Rattle.cluster_core.specs.Ports.{HasCause, IsQuiet, IsServed, OnUp, is
 ghost use Rattle.cluster_core.specs.Shows.{IsShown};
 
 use crate::cluster::Cluster;
-use crate::places::slot_of;
 use record_locks::Mode;
 use script_text::Reply;
 use sd_base::{Disk, Key, PageNo, TxnId, Value};
@@ -29,11 +31,11 @@ impl Cluster {
         requires up { is_up self.now.node ≡ true }
         requires cached { IfSome home (λ x. (self.now.shape.maps ≤ x.0) × OnUp self.now.node (λ c seats. IsTrue (is_cached x c))) }
         ensures none { IfNone home (result ≡ None) }
-        ensures some { IfSome home (λ x. (v : PageView) → ShowsData self.now x v → result ≡ content v (key.0 % 16)) }
+        ensures some { IfSome home (λ x. (v : PageView) → ShowsData self.now x v → result ≡ content v (slot_of_key key.0)) }
         ensures there { IfSome home (λ x. (v : PageView) × ShowsData self.now x v) }
     {
         match home {
-            Some(x) => self.slot_of(x, slot_of(key)),
+            Some(x) => self.slot_of(x, key.slot()),
             None => None,
         }
     }

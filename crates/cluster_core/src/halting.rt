@@ -1,3 +1,5 @@
+//! The node goes down where its port stops or fails, and each device fault gets its reply.
+
 ghost use Rattle.std.specs.Prelude.{◌≡◌, ◌≤◌, true, false, None, ℕ, length, replicate, IsTrue};
 ghost use Rattle.std.specs.FinMap.{empty};
 ghost use Rattle.sd_base.specs.Disk.{IsFreeFor};

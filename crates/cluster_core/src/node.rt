@@ -1,3 +1,5 @@
+//! The three states of a node: not in use, up with its cache and transactions, or down.
+
 use node_cache::NodeCache;
 use txn_core::Seats;
 

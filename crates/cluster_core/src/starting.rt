@@ -1,12 +1,15 @@
+//! The command `start`: the ports of the node start, its log is read, and the node is up.
+
 ghost use Rattle.std.specs.Prelude.{◌≡◌, None, ℕ, true, false, IsTrue, IfErr, OnOk, OnErr, length};
 ghost use Rattle.sd_base.specs.Calls.{Keeps, Narrows};
 ghost use Rattle.sd_base.specs.Faults.{OnStop};
 ghost use Rattle.private_log.specs.Content.{region_of};
 ghost use Rattle.private_log.specs.Reading.{contents};
 ghost use Rattle.state_ids.specs.Blocks.{UnlessStopped};
+ghost use Rattle.store_format.specs.FaultReply.{fault_reply};
 ghost use Rattle.cluster_core.specs.declared.node.Node.TheVariants.{Down, Idle, Up};
 ghost use Rattle.cluster_core.specs.Cluster.{IsAtRest};
-ghost use Rattle.cluster_core.specs.FaultReply.{IsLogReply, IsToldDamaged, fault_reply};
+ghost use Rattle.cluster_core.specs.LogReply.{IsLogReply, IsToldDamaged};
 ghost use Rattle.cluster_core.specs.Ports.{HasCause, IsQuiet, IsServed, is_up, says_stop};
 ghost use Rattle.cluster_core.specs.Shows.{IsShown};
 ghost use Rattle.record_machine.specs.Machine.{Machine};
@@ -15,12 +18,12 @@ ghost use Rattle.record_machine.specs.Parts.{Start, one};
 use crate::cluster::{Cluster, Shared};
 use crate::halting::{NODE, halt};
 use crate::node::Node;
-use crate::reply::reply_to;
 use node_cache::NodeCache;
 use private_log::Log;
 use script_text::Reply;
 use sd_base::{DevFault, Disk};
 use std::mem;
+use store_format::fault_reply;
 use txn_core::Seats;
 
 /// Puts a node to use.
@@ -66,7 +69,7 @@ fn leave_out<D: Disk, V: Disk>(
             vault.stop(NODE, 0);
         }
     }
-    reply_to(fault)
+    fault_reply(fault)
 }
 
 impl Cluster {

@@ -1,9 +1,12 @@
-ghost use Rattle.std.specs.Prelude.{◌≡◌, ◌≤◌, ◌+◌, ◌∷◌, [], true, false, IsTrue, IfErr, OnOk};
+//! The commands `begin` and `commit`.
+
+ghost use Rattle.std.specs.Prelude.{◌≡◌, ◌≤◌, ◌+◌, ◌∷◌, [], true, false, Some, IsTrue, IfErr, OnOk};
 ghost use Rattle.sd_base.specs.Calls.{Keeps, Narrows};
 ghost use Rattle.record_machine.specs.Machine.{Machine};
 ghost use Rattle.record_machine.specs.Parts.{Begin, Seal, Unlock, dos, one};
 ghost use Rattle.private_log.specs.Log.{space};
-ghost use Rattle.txn_core.specs.Seats.{is_busy, owed};
+ghost use Rattle.txn_core.specs.declared.ending.Ending.TheVariants.{Abort};
+ghost use Rattle.txn_core.specs.Seats.{OpenTxn, is_busy, owed, txn_in};
 ghost use Rattle.cluster_core.specs.Footprint.{KeepsAllButLog, NarrowsBesides, NarrowsToRing};
 ghost use Rattle.cluster_core.specs.Ports.{HasCause, IsQuiet, IsServed, OnUp, is_up, says_stop};
 ghost use Rattle.cluster_core.specs.Shows.{IsShown};
@@ -13,6 +16,7 @@ use crate::halting::give_up;
 use crate::node::Node;
 use script_text::Reply;
 use sd_base::{Disk, TxnId};
+use txn_core::Ending;
 
 impl Cluster {
     /// Begins a transaction in a free seat of the node, where the log has room for it.
@@ -63,17 +67,19 @@ impl Cluster {
         ))
     }
 
-    /// Commits a transaction: its end is stable then, and its locks are released.
-    pub(crate) fn commit<D: Disk, V: Disk>(
+    /// Ends a transaction: its end is stable then, and its locks are released.
+    pub(crate) fn end<D: Disk, V: Disk>(
         &mut self,
         disk: &mut D,
         vault: &mut V,
         t: TxnId,
+        ending: Ending,
     ) -> Result<(), Reply>
         requires up { is_up self.old.node ≡ true }
         requires node { t.node.0 ≡ 1 }
         requires seat { t.seat ≤ 7 }
         requires busy { OnUp self.old.node (λ c seats. IsTrue (is_busy seats t.seat)) }
+        requires nothing { ending ≡ Abort → OnUp self.old.node (λ c seats. (u : OpenTxn) → txn_in seats t.seat ≡ Some u → u.left ≡ 0) }
         requires served { IsServed self.old (D.state disk.old) (V.state vault.old) }
         requires quiet { IsTrue D.told → IsQuiet self.old (D.state disk.old).block }
         ensures served { IsServed self.new (D.state disk.new) (V.state vault.new) }
@@ -91,7 +97,7 @@ impl Cluster {
     {
         let fault = match &mut self.node {
             Node::Up(cache, seats) => {
-                let done = seats.commit(disk, cache, t.seat);
+                let done = seats.end(disk, cache, t.seat, ending);
                 cache.law_of_pages();
                 match done {
                     Ok(()) => {

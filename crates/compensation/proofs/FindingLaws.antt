@@ -3,11 +3,16 @@ use Rattle.std.proofs.Common.{◌≡◌, ◌+◌, ◌-◌, ◌≤◌, ◌<◌, �
 use Rattle.std.specs.List.{list_any, slice_get}
 use Rattle.std.proofs.lemmas.List.{append-nil, length-append, length-take, take-append-le, take_all, take_at}
 use Rattle.std.proofs.lemmas.List.Elements.{All-append}
+use Rattle.std.proofs.Math.Bool.{or-false}
+use Rattle.std.proofs.lemmas.List.Folds.{list_any-append}
+use Rattle.std.proofs.lemmas.Option.{slice_get_within}
+use Rattle.std.proofs.lemmas.Bool.{or_parts}
 use Rattle.std.proofs.lemmas.Bool.Decides.{nat_tests}
 use Rattle.log_record.specs.declared.record.LogRecord.{LogRecord}
 use Rattle.compensation.specs.Left.{is_update_of, next_after, lies_before, takes_back, uncompensated}
 use Rattle.compensation.specs.Finding.{left_at, record_at, record_before, next_behind, TellsLeft}
 use Rattle.compensation.proofs.LeftLaws.{here, left-update, left-compensation, not_before, update_not_compensation, compensation_not_update}
+use Rattle.compensation.proofs.LogRecords.{is_le, left_at-push, old_or_new}
 
 -- ---- an update that is left, and what was left before it
 
@@ -29,27 +34,11 @@ fewer t u v rec le h = by (next_after t rec) h
     by None e = refl
     by (Some next) e = grind (arith, nat_tests)
 
-both_false : (a b : Bool) → (a || b) ≡ false → (a ≡ false) × (b ≡ false)
-both_false true b e = cc
-both_false false b e = (refl, e)
-
 none_fewer : (t u v : ℕ) (recs : List LogRecord) → u ≤ v → list_any (takes_back t v) recs ≡ false → list_any (takes_back t u) recs ≡ false
 none_fewer t u v [] le h = refl
 none_fewer t u v (r ∷ rs) le h =
-    let parts = both_false (takes_back t v r) (list_any (takes_back t v) rs) h in
+    let parts = or_parts (takes_back t v r) (list_any (takes_back t v) rs) h in
     ap (λ b. b || list_any (takes_back t u) rs) (fewer t u v r le parts.0) ∙ none_fewer t u v rs le parts.1
-
-any-append : (p : LogRecord → Bool) (xs ys : List LogRecord) → list_any p (xs ++ ys) ≡ (list_any p xs || list_any p ys)
-any-append p [] ys = refl
-any-append p (x ∷ xs) ys = by (p x) (any-append p xs ys)
-  where
-    by : (b : Bool) → list_any p (xs ++ ys) ≡ (list_any p xs || list_any p ys) → (b || list_any p (xs ++ ys)) ≡ ((b || list_any p xs) || list_any p ys)
-    by true e = refl
-    by false e = e
-
-or_false : (b : Bool) → (b || false) ≡ b
-or_false true = refl
-or_false false = refl
 
 -- an element of a list with at most one more stands in the list, or is that one
 cut : (xs newer end : List ℕ) (u : ℕ) (rest : List ℕ) → length end ≤ 1 → xs ++ end ≡ newer ++ u ∷ rest → ((more : List ℕ) × (xs ≡ newer ++ u ∷ more) × (more ++ end ≡ rest)) ⊎ (end ≡ u ∷ rest)
@@ -97,9 +86,9 @@ left_is t first (r ∷ rs) newer u rest e = by (cut (uncompensated t (first + 1)
         let low : first ≤ u = (let n = h.number in omega arith) in
         let gone : list_any (takes_back t first) rs ≡ list_any (takes_back t first) h.before =
         ap (list_any (takes_back t first)) h.split
-        ∙ any-append (takes_back t first) h.before (h.rec ∷ h.behind)
+        ∙ list_any-append (takes_back t first) h.before (h.rec ∷ h.behind)
         ∙ ap (λ b. list_any (takes_back t first) h.before || b) (ap (λ o. lies_before o first || list_any (takes_back t first) h.behind) (update_not_compensation t h.rec h.update) ∙ none_fewer t first u h.behind low h.stays)
-        ∙ or_false (list_any (takes_back t first) h.before) in
+        ∙ or-false (list_any (takes_back t first) h.before) in
         record {
           before = r ∷ h.before;
           rec = h.rec;
@@ -144,18 +133,6 @@ all_kept (x ∷ xs) n h = by (nat_le x n) refl (all_kept xs n (λ k d lt. h (suc
 
 -- ---- a log with one record more
 
-last_or_before : (recs : List LogRecord) (x rec : LogRecord) (i : ℕ) → slice_get (recs ++ x ∷ []) i ≡ Some rec → ((i < length recs) × (slice_get recs i ≡ Some rec)) ⊎ ((i ≡ length recs) × (x ≡ rec))
-last_or_before [] x rec zero e = inr (refl, (let same : x ≡ rec = cc in same))
-last_or_before [] x rec (suc i) e = cc
-last_or_before (r ∷ rs) x rec zero e = inl (omega arith, e)
-last_or_before (r ∷ rs) x rec (suc i) e = elim (last_or_before rs x rec i e) as (λ _. ((suc i < length (r ∷ rs)) × (slice_get (r ∷ rs) (suc i) ≡ Some rec)) ⊎ ((suc i ≡ length (r ∷ rs)) × (x ≡ rec))) [
-  | inl h ↦ inl (omega (arith, h.0), h.1)
-  | inr h ↦ inr (ap suc h.0, h.1)
-]
-
-left_at-push : (t first : ℕ) (recs : List LogRecord) (x : LogRecord) (r : ℕ) → r < first + length recs → left_at t first (recs ++ x ∷ []) r ≡ left_at t first recs r
-left_at-push t first recs x r lt = ap (uncompensated t first) (take-append-le (r + 1 - first) recs (x ∷ []) (omega arith))
-
 pub TellsLeft-push : (t first : ℕ) (recs : List LogRecord) (x : LogRecord) → TellsLeft t first recs
     → (is_update_of t x ≡ true → (first ≤ record_before x) × (record_before x < first + length recs) × (left_at t first recs (record_before x) ≡ uncompensated t first recs))
     → ((next : ℕ) → next_after t x ≡ Some next → (next < first + length recs) × (left_at t first recs next ≡ uncompensated t first (recs ++ x ∷ [])))
@@ -163,7 +140,7 @@ pub TellsLeft-push : (t first : ℕ) (recs : List LogRecord) (x : LogRecord) →
 TellsLeft-push t first recs x told update compensation = record { update = updates; compensation = compensations }
   where
     updates : (i : ℕ) (rec : LogRecord) → slice_get (recs ++ x ∷ []) i ≡ Some rec → is_update_of t rec ≡ true → (first ≤ record_before rec) × (record_before rec < first + i) × (left_at t first (recs ++ x ∷ []) (record_before rec) ≡ uncompensated t first (take i (recs ++ x ∷ [])))
-    updates i rec at is = elim (last_or_before recs x rec i at) as (λ _. (first ≤ record_before rec) × (record_before rec < first + i) × (left_at t first (recs ++ x ∷ []) (record_before rec) ≡ uncompensated t first (take i (recs ++ x ∷ [])))) [
+    updates i rec at is = elim (old_or_new recs x rec i at) as (λ _. (first ≤ record_before rec) × (record_before rec < first + i) × (left_at t first (recs ++ x ∷ []) (record_before rec) ≡ uncompensated t first (take i (recs ++ x ∷ [])))) [
       | inl h ↦
           let old = told.update i rec h.1 is in
           (old.0, old.1, left_at-push t first recs x (record_before rec) (omega (arith, old.1, h.0)) ∙ old.2 ∙ sym (ap (uncompensated t first) (take-append-le i recs (x ∷ []) (omega (arith, h.0)))))
@@ -180,7 +157,7 @@ TellsLeft-push t first recs x told update compensation = record { update = updat
     ]
 
     compensations : (i next : ℕ) (rec : LogRecord) → slice_get (recs ++ x ∷ []) i ≡ Some rec → next_after t rec ≡ Some next → (next < first + i) × (left_at t first (recs ++ x ∷ []) next ≡ uncompensated t first (take (i + 1) (recs ++ x ∷ [])))
-    compensations i next rec at is = elim (last_or_before recs x rec i at) as (λ _. (next < first + i) × (left_at t first (recs ++ x ∷ []) next ≡ uncompensated t first (take (i + 1) (recs ++ x ∷ [])))) [
+    compensations i next rec at is = elim (old_or_new recs x rec i at) as (λ _. (next < first + i) × (left_at t first (recs ++ x ∷ []) next ≡ uncompensated t first (take (i + 1) (recs ++ x ∷ [])))) [
       | inl h ↦
           let old = told.compensation i next rec h.1 is in
           (old.0, left_at-push t first recs x next (omega (arith, old.0, h.0)) ∙ old.1 ∙ sym (ap (uncompensated t first) (take-append-le (i + 1) recs (x ∷ []) (omega (arith, h.0)))))
@@ -205,15 +182,10 @@ take-next [] i rec e = cc
 take-next (r ∷ rs) zero rec e = let same : r ≡ rec = cc in ap (λ x. x ∷ []) same
 take-next (r ∷ rs) (suc i) rec e = let n : suc i + 1 ≡ suc (i + 1) = omega arith in ap (λ n. take n (r ∷ rs)) n ∙ ap (λ xs. r ∷ xs) (take-next rs i rec e)
 
-within : (recs : List LogRecord) (i : ℕ) (rec : LogRecord) → slice_get recs i ≡ Some rec → i < length recs
-within [] i rec e = cc
-within (r ∷ rs) zero rec e = omega arith
-within (r ∷ rs) (suc i) rec e = let rest = within rs i rec e in omega arith
-
 pub found-update : (t first : ℕ) (recs : List LogRecord) (i : ℕ) (rec : LogRecord) → TellsLeft t first recs → slice_get recs i ≡ Some rec → is_update_of t rec ≡ true → left_at t first recs (first + i) ≡ (first + i) ∷ left_at t first recs (record_before rec)
 found-update t first recs i rec told at is =
     let told_here = told.update i rec at is in
-    let count : length (take i recs) ≡ i = (let lt = within recs i rec at in omega (arith, length-take i recs)) in
+    let count : length (take i recs) ≡ i = (let lt = slice_get_within recs i rec at in omega (arith, length-take i recs)) in
     first_at t first recs i
     ∙ ap (uncompensated t first) (take-next recs i rec at)
     ∙ left-update t first (take i recs) rec is
@@ -226,9 +198,6 @@ found-compensation t first recs i next rec told at is = first_at t first recs i 
 
 record_at-is : (first : ℕ) (recs : List LogRecord) (r : ℕ) → first ≤ r → record_at first recs r ≡ slice_get recs (r - first)
 record_at-is first recs r le = ap (λ b. cond b (slice_get recs (r - first)) None) (is_le first r le)
-  where
-    is_le : (a b : ℕ) → a ≤ b → nat_le a b ≡ true
-    is_le a b le = grind (arith, nat_tests)
 
 not_le : (a b : ℕ) → b < a → nat_le a b ≡ false
 not_le a b lt = grind (arith, nat_tests)
@@ -283,7 +252,7 @@ left_told t first recs newer u rest update told left at =
     record {
       place = i;
       number = h.number;
-      within = within recs i h.rec reads;
+      within = slice_get_within recs i h.rec reads;
       low = here.0;
       high = (let n = h.number in omega (arith, here.1));
       left = h.left ∙ ap (uncompensated t first) (sym front) ∙ sym here.2 ∙ sym behind.1;

@@ -2,7 +2,9 @@
 use Rattle.std.proofs.Common.{◌≡◌, ◌+◌, ◌≤◌, ◌<◌, ◌&&◌, ◌||◌, ◌++◌, ◌==◌, ℕ, zero, suc, Bool, All, Contains, get_or, true, false, not, cond, nat_lt, nat_le, List, [], ◌∷◌, Some, None, length, filter, refl, sym, ◌∙◌, ap, subst, arith}
 use Rattle.std.specs.List.{list_any}
 use Rattle.std.proofs.lemmas.List.{append_assoc, append-nil}
-use Rattle.std.proofs.lemmas.List.Elements.{All-append}
+use Rattle.std.proofs.Math.Bool.{or-false}
+use Rattle.std.proofs.lemmas.List.Elements.{All-append, filter-append}
+use Rattle.std.proofs.lemmas.List.Folds.{list_any-append}
 use Rattle.std.proofs.lemmas.Bool.Decides.{nat_tests}
 use Rattle.log_record.specs.declared.record.LogRecord.{LogRecord}
 use Rattle.log_record.specs.declared.record.LogRecord.TheVariants.{Begin, Set, Append, Commit, Abort, Restore, Cut, MapUse, MapFree}
@@ -14,16 +16,7 @@ abbrev pub here : Bool → Bool → ℕ → List ℕ
 here update gone u = cond (update && not gone) (u ∷ []) []
 
 any_push : (test : LogRecord → Bool) (recs : List LogRecord) (rec : LogRecord) → list_any test (recs ++ rec ∷ []) ≡ (list_any test recs || test rec)
-any_push test [] rec = by (test rec)
-  where
-    by : (b : Bool) → (b || false) ≡ b
-    by true = refl
-    by false = refl
-any_push test (r ∷ rs) rec = by (test r) (any_push test rs rec)
-  where
-    by : (b : Bool) → list_any test (rs ++ rec ∷ []) ≡ (list_any test rs || test rec) → (b || list_any test (rs ++ rec ∷ [])) ≡ ((b || list_any test rs) || test rec)
-    by true e = refl
-    by false e = e
+any_push test recs rec = list_any-append test recs (rec ∷ []) ∙ ap (λ b. list_any test recs || b) (or-false (test rec))
 
 -- a record that is no compensation of the transaction leaves what was left, and one more where it is an update
 pub uncompensated-push : (t first : ℕ) (recs : List LogRecord) (rec : LogRecord) → next_after t rec ≡ None → uncompensated t first (recs ++ rec ∷ []) ≡ cond (is_update_of t rec) ((first + length recs) ∷ []) [] ++ uncompensated t first recs
@@ -33,23 +26,11 @@ uncompensated-push t first [] rec none = by (is_update_of t rec)
     by true = let e : first ≡ first + 0 = omega arith in ap (λ n. n ∷ []) e
     by false = refl
 uncompensated-push t first (r ∷ rs) rec none =
-    let same : list_any (takes_back t first) (rs ++ rec ∷ []) ≡ list_any (takes_back t first) rs = any_push (takes_back t first) rs rec ∙ ap (λ o. list_any (takes_back t first) rs || lies_before o first) none ∙ or_false (list_any (takes_back t first) rs) in
+    let same : list_any (takes_back t first) (rs ++ rec ∷ []) ≡ list_any (takes_back t first) rs = any_push (takes_back t first) rs rec ∙ ap (λ o. list_any (takes_back t first) rs || lies_before o first) none ∙ or-false (list_any (takes_back t first) rs) in
     let later : (first + 1) + length rs ≡ first + length (r ∷ rs) = omega arith in
     (λ i. uncompensated-push t (first + 1) rs rec none i ++ here (is_update_of t r) (same i) first)
     ∙ append_assoc (cond (is_update_of t rec) (((first + 1) + length rs) ∷ []) []) (uncompensated t (first + 1) rs) (here (is_update_of t r) (list_any (takes_back t first) rs) first)
     ∙ ap (λ n. cond (is_update_of t rec) (n ∷ []) [] ++ uncompensated t first (r ∷ rs)) later
-  where
-    or_false : (b : Bool) → (b || false) ≡ b
-    or_false true = refl
-    or_false false = refl
-
-filter-append : (p : ℕ → Bool) (xs ys : List ℕ) → filter p (xs ++ ys) ≡ filter p xs ++ filter p ys
-filter-append p [] ys = refl
-filter-append p (x ∷ xs) ys = by (p x) (filter-append p xs ys)
-  where
-    by : (b : Bool) → filter p (xs ++ ys) ≡ filter p xs ++ filter p ys → cond b (x ∷ filter p (xs ++ ys)) (filter p (xs ++ ys)) ≡ cond b (x ∷ filter p xs) (filter p xs) ++ filter p ys
-    by true e = ap (λ rest. x ∷ rest) e
-    by false e = e
 
 -- a compensation leaves what lies up to the record that it says is next
 pub uncompensated-compensation : (t first next : ℕ) (recs : List LogRecord) (rec : LogRecord) → is_update_of t rec ≡ false → next_after t rec ≡ Some next → uncompensated t first (recs ++ rec ∷ []) ≡ filter (λ u. nat_le u next) (uncompensated t first recs)
@@ -96,27 +77,29 @@ chosen : (b : Bool) (n next : ℕ) → cond b (Some n) None ≡ Some next → n 
 chosen true n next e = cc
 chosen false n next e = cc
 
-next_of-update : (t r : ℕ) (rec : LogRecord) → is_update_of t rec ≡ true → next_to_undo rec r ≡ Some r
-next_of-update t r Begin e = cc
-next_of-update t r (Set txn prev page bsi slot before after) e = refl
-next_of-update t r (Append txn prev page bsi slot present len bytes) e = refl
-next_of-update t r (Commit txn prev) e = cc
-next_of-update t r (Abort txn prev) e = cc
-next_of-update t r (Restore txn prev next page bsi slot after) e = cc
-next_of-update t r (Cut txn prev next page bsi slot present len) e = cc
-next_of-update t r (MapUse page bsi place group) e = cc
-next_of-update t r (MapFree page bsi place group ident) e = cc
+-- at an update the next record is the update itself
+pub next_of_update : (t r : ℕ) (rec : LogRecord) → is_update_of t rec ≡ true → next_to_undo rec r ≡ Some r
+next_of_update t r Begin e = cc
+next_of_update t r (Set txn prev page bsi slot before after) e = refl
+next_of_update t r (Append txn prev page bsi slot present len bytes) e = refl
+next_of_update t r (Commit txn prev) e = cc
+next_of_update t r (Abort txn prev) e = cc
+next_of_update t r (Restore txn prev next page bsi slot after) e = cc
+next_of_update t r (Cut txn prev next page bsi slot present len) e = cc
+next_of_update t r (MapUse page bsi place group) e = cc
+next_of_update t r (MapFree page bsi place group ident) e = cc
 
-next_of-compensation : (t r next : ℕ) (rec : LogRecord) → next_after t rec ≡ Some next → next_to_undo rec r ≡ Some next
-next_of-compensation t r next Begin e = cc
-next_of-compensation t r next (Set txn prev page bsi slot before after) e = cc
-next_of-compensation t r next (Append txn prev page bsi slot present len bytes) e = cc
-next_of-compensation t r next (Commit txn prev) e = cc
-next_of-compensation t r next (Abort txn prev) e = cc
-next_of-compensation t r next (Restore txn prev n page bsi slot after) e = ap Some (chosen (txn == t) n next e)
-next_of-compensation t r next (Cut txn prev n page bsi slot present len) e = ap Some (chosen (txn == t) n next e)
-next_of-compensation t r next (MapUse page bsi place group) e = cc
-next_of-compensation t r next (MapFree page bsi place group ident) e = cc
+-- at a compensation the next record is the one that it names
+pub next_of_compensation : (t r next : ℕ) (rec : LogRecord) → next_after t rec ≡ Some next → next_to_undo rec r ≡ Some next
+next_of_compensation t r next Begin e = cc
+next_of_compensation t r next (Set txn prev page bsi slot before after) e = cc
+next_of_compensation t r next (Append txn prev page bsi slot present len bytes) e = cc
+next_of_compensation t r next (Commit txn prev) e = cc
+next_of_compensation t r next (Abort txn prev) e = cc
+next_of_compensation t r next (Restore txn prev n page bsi slot after) e = ap Some (chosen (txn == t) n next e)
+next_of_compensation t r next (Cut txn prev n page bsi slot present len) e = ap Some (chosen (txn == t) n next e)
+next_of_compensation t r next (MapUse page bsi place group) e = cc
+next_of_compensation t r next (MapFree page bsi place group ident) e = cc
 
 -- ---- one more record
 
@@ -190,11 +173,11 @@ none_kept (u ∷ us) p h = by (nat_le u p) refl (none_kept us p (λ k d lt. h (s
     by false le rest = rest
 
 pub next-update : (t first : ℕ) (recs : List LogRecord) (rec : LogRecord) → is_update_of t rec ≡ true → next_to_undo rec (first + length recs) ≡ newest (uncompensated t first (recs ++ rec ∷ []))
-next-update t first recs rec is = next_of-update t (first + length recs) rec is ∙ sym (ap newest (left-update t first recs rec is))
+next-update t first recs rec is = next_of_update t (first + length recs) rec is ∙ sym (ap newest (left-update t first recs rec is))
 
 pub next-compensation : (t first next : ℕ) (recs : List LogRecord) (rec : LogRecord) → next_after t rec ≡ Some next → Contains (uncompensated t first recs) next → next_to_undo rec (first + length recs) ≡ newest (uncompensated t first (recs ++ rec ∷ []))
 next-compensation t first next recs rec is left =
-    next_of-compensation t (first + length recs) next rec is
+    next_of_compensation t (first + length recs) next rec is
     ∙ sym (ap newest (left-compensation t first next recs rec is) ∙ kept_first (uncompensated t first recs) next (Falls-uncompensated t first recs) left)
 
 pub nothing-left : (t first next : ℕ) (recs : List LogRecord) (rec : LogRecord) → next_after t rec ≡ Some next → All (λ u. next < u) (uncompensated t first recs) → uncompensated t first (recs ++ rec ∷ []) ≡ []

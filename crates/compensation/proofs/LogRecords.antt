@@ -1,5 +1,5 @@
 -- The records of a log: where each stands, what was left at it, and of what kind it is.
-use Rattle.std.proofs.Common.{◌≡◌, ◌≢◌, ◌+◌, ◌-◌, ◌≤◌, ◌<◌, ◌++◌, ◌==◌, ℕ, zero, suc, Bool, true, false, cond, nat_le, List, [], ◌∷◌, Some, None, length, refl, sym, ◌∙◌, ap, arith, ◌⊎◌, inl, inr}
+use Rattle.std.proofs.Common.{◌≡◌, ◌≢◌, ◌+◌, ◌-◌, ◌≤◌, ◌<◌, ◌++◌, ◌==◌, ℕ, zero, suc, Bool, true, false, cond, nat_le, List, [], ◌∷◌, Some, None, length, refl, ◌∙◌, ap, arith, ◌⊎◌, inl, inr}
 use Rattle.std.specs.List.{slice_get}
 use Rattle.std.proofs.lemmas.List.{length-append, take-append-le, take_all}
 use Rattle.std.proofs.lemmas.Option.{slice_get_within}
@@ -8,8 +8,7 @@ use Rattle.log_record.specs.declared.record.LogRecord.{LogRecord}
 use Rattle.log_record.specs.declared.record.LogRecord.TheVariants.{Begin, Set, Append, Commit, Abort, Restore, Cut, MapUse, MapFree}
 use Rattle.log_record.specs.Fields.{fields_of}
 use Rattle.compensation.specs.Left.{is_update_of, next_after, uncompensated}
-use Rattle.compensation.specs.Finding.{left_at, newest, next_to_undo, record_at}
-use Rattle.compensation.proofs.LeftLaws.{left-update, next-update}
+use Rattle.compensation.specs.Finding.{left_at, record_at}
 
 -- ---- where a record stands
 
@@ -21,7 +20,7 @@ at_place first recs r rec at = by (nat_le first r) refl at
     by true le at = (grind (arith, nat_tests), at)
     by false le at = cc
 
-is_le : (a b : ℕ) → a ≤ b → nat_le a b ≡ true
+pub is_le : (a b : ℕ) → a ≤ b → nat_le a b ≡ true
 is_le a b le = grind (arith, nat_tests)
 
 -- and a record that stands there has that number
@@ -92,26 +91,3 @@ other_txn t (Restore txn prev next page bsi slot after) ne = (refl, ap (λ b. co
 other_txn t (Cut txn prev next page bsi slot present len) ne = (refl, ap (λ b. cond b (Some next) None) (test_false txn t ne))
 other_txn t (MapUse page bsi place group) ne = (refl, refl)
 other_txn t (MapFree page bsi place group ident) ne = (refl, refl)
-
--- at an update the next record is the update itself
-pub next_of_update : (t r : ℕ) (rec : LogRecord) → is_update_of t rec ≡ true → next_to_undo rec r ≡ Some r
-next_of_update t r rec is =
-    let none : List LogRecord = [] in
-    let number : r + length none ≡ r = omega arith in
-    ap (next_to_undo rec) (sym number) ∙ next-update t r none rec is ∙ ap newest (left-update t r none rec is) ∙ ap Some number
-
-chosen : (b : Bool) (n next : ℕ) → cond b (Some n) None ≡ Some next → n ≡ next
-chosen true n next e = cc
-chosen false n next e = cc
-
--- at a compensation the next record is the one that it names
-pub next_of_compensation : (t r next : ℕ) (rec : LogRecord) → next_after t rec ≡ Some next → next_to_undo rec r ≡ Some next
-next_of_compensation t r next Begin e = cc
-next_of_compensation t r next (Set txn prev page bsi slot before after) e = cc
-next_of_compensation t r next (Append txn prev page bsi slot present len bytes) e = cc
-next_of_compensation t r next (Commit txn prev) e = cc
-next_of_compensation t r next (Abort txn prev) e = cc
-next_of_compensation t r next (Restore txn prev n page bsi slot after) e = ap Some (chosen (txn == t) n next e)
-next_of_compensation t r next (Cut txn prev n page bsi slot present len) e = ap Some (chosen (txn == t) n next e)
-next_of_compensation t r next (MapUse page bsi place group) e = cc
-next_of_compensation t r next (MapFree page bsi place group ident) e = cc

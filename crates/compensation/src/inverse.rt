@@ -1,3 +1,5 @@
+//! The change of a page that takes an update back.
+
 ghost use Rattle.std.specs.Prelude.{◌≡◌, IfSome};
 ghost use Rattle.compensation.specs.Inverse.{taking_back, Undoes};
 

@@ -1,3 +1,5 @@
+//! What is left of a transaction to take back, and how the log leads to it, stated as laws.
+
 ghost use Rattle.std.specs.Prelude.{◌≡◌, ◌+◌, ◌<◌, ◌≤◌, ℕ, true, false, nat_le, List, [], ◌∷◌, ◌++◌, Some, None, All, Contains, filter, length, slice_get};
 ghost use Rattle.log_record.specs.declared.record.LogRecord.{LogRecord};
 ghost use Rattle.compensation.specs.Left.{is_update_of, next_after, uncompensated};

@@ -16,6 +16,3 @@ pub use laws::{
     law_of_told_logs,
 };
 pub use next::{next_after, next_of, record_before};
-
-#[cfg(test)]
-mod tests;

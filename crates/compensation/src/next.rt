@@ -1,3 +1,5 @@
+//! What a log record says of others: which one stands before it, and which to take back next.
+
 ghost use Rattle.std.specs.Prelude.{◌≡◌};
 ghost use Rattle.compensation.specs.Finding.{next_to_undo, record_before};
 ghost use Rattle.compensation.specs.Left.{next_after};

@@ -7,3 +7,7 @@ pub mod Picks
 pub mod MemState
 pub mod MemPicks
 pub mod MemStateLaws
+pub mod Fuse
+pub mod Below
+pub mod Window
+pub mod Unarmed

@@ -1,3 +1,5 @@
+//! How one block stands: covered, lost, or written and waiting for a barrier or a stop.
+
 ghost use Rattle.std.specs.Prelude.{◌≡◌, ◌⊎◌, Some, None};
 ghost use Rattle.disk_model.specs.Memory.{writer_of, place_of};
 ghost use Rattle.disk_model.specs.Settling.{CoversCell, StopsCell, WritesCell};

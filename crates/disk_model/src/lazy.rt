@@ -1,3 +1,5 @@
+//! An array of blocks that are zero until they are written, and are stored only then.
+
 ghost use Rattle.std.specs.Prelude.{◌≡◌, ◌<◌, ◌≤◌, IfOk, List, ℕ, replicate, length, slice_index_or, slice_set, vec_capacity};
 ghost use Rattle.disk_model.specs.Lazy.{zero_block, laid_out, content_at, IsLaid};
 

@@ -1,3 +1,5 @@
+//! The device itself: its blocks and ports, and its calls, none of which is stopped or fails.
+
 ghost use Rattle.std.specs.Prelude.{◌≡◌, ◌≢◌, ◌<◌, ◌≤◌, ◌*◌, true, false, Some, None, ℕ, Bool, IsTrue, [], IfOk, length, replicate};
 ghost use Rattle.sd_base.specs.Disk.{IsFreeFor, IsPort};
 ghost use Rattle.sd_base.specs.Calls.{Keeps, Narrows, NarrowsBut, NoNewWriter, NoNewWriterBut, KeepsForeign, KeepsForeignBut, Writes, CutsWrite, Covers, Settles, CountsStay, IsOrdered, Loses};

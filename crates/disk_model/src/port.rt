@@ -1,3 +1,5 @@
+//! One port: whether it is live, and the range in which its uncovered blocks lie.
+
 ghost use Rattle.std.specs.Prelude.{◌≡◌, ◌+◌, ◌<◌, ◌^◌, min, max};
 
 /// A port: whether it may be used, and where the blocks lie that it has written and not covered.

@@ -1,3 +1,5 @@
+//! What a write, a barrier and a stop do to blocks.
+
 ghost use Rattle.std.specs.Prelude.{◌≡◌, ◌≢◌, ◌<◌, ◌≤◌, ◌*◌, ◌%◌, ℕ, List, Some, length};
 ghost use Rattle.sd_base.specs.Disk.{IsFreeFor};
 ghost use Rattle.disk_model.specs.Memory.{block_at, view_at, waiter_at};

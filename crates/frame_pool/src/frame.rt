@@ -1,3 +1,5 @@
+//! A frame that is out of its pool, and has to be given back to it.
+
 use std::marker::Model;
 
 /// A frame that is out of a pool. A contract sees it as its number, which counts from 0.

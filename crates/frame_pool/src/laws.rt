@@ -1,3 +1,5 @@
+//! What holds of all other frames where one is taken, written or given back.
+
 ghost use Rattle.std.specs.Prelude.{◌≡◌, ◌≢◌, ℕ, List, Option, Some, None, slice_set};
 ghost use Rattle.frame_pool.specs.Frames.{IsOut, frame_at};
 

@@ -12,6 +12,3 @@ mod pool;
 pub use frame::Frame;
 pub use laws::law_of_other_frames;
 pub use pool::Pool;
-
-#[cfg(test)]
-mod tests;

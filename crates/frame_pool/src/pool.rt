@@ -1,3 +1,5 @@
+//! The pool: frames are taken from it, read and written through it, and given back to it.
+
 ghost use Rattle.std.specs.Prelude.{◌≡◌, ◌+◌, ◌<◌, ◌≤◌, ◌↔◌, ℕ, Some, None, IsSome, IfSome, IfNone, IfOk, replicate, slice_set, length, vec_capacity};
 ghost use Rattle.std.specs.List.{range_with_len};
 ghost use Rattle.std.specs.Borrow.{sem};

@@ -1,3 +1,5 @@
+//! The fields that all texts of records have, and what a record has in each of them.
+
 ghost use Rattle.std.specs.Prelude.{◌≡◌, Some};
 ghost use Rattle.log_record.specs.Fields.{half_of, half_of_value, half_of_mark, fields_of};
 

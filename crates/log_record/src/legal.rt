@@ -1,3 +1,5 @@
+//! Which records are legal: those of which each number is in its range.
+
 ghost use Rattle.std.specs.Prelude.{◌≡◌, ◌↔◌, IsTrue};
 ghost use Rattle.log_record.specs.Legal.{IsContent, IsMark, HasPlace, HasExtra, HasContents, IsLegal};
 

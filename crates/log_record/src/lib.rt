@@ -15,6 +15,3 @@ mod text;
 pub use legal::is_legal;
 pub use record::{LogRecord, page_op};
 pub use text::{decode, encode, law_of_one_text};
-
-#[cfg(test)]
-mod tests;

@@ -1,3 +1,5 @@
+//! The fields that stand in a text, and the record that has them.
+
 ghost use Rattle.std.specs.Prelude.{◌≡◌, ◌+◌, ◌≤◌};
 ghost use Rattle.sd_base.specs.Text.{bytes_at};
 ghost use Rattle.log_record.specs.Reading.{HasFields, content_in, set_in, append_in, restore_in, cut_in, map_use_in, map_free_in, record_in};

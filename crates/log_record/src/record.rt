@@ -1,3 +1,5 @@
+//! The kinds of log records, and the change that a record makes of its page.
+
 ghost use Rattle.std.specs.Prelude.{◌≡◌};
 ghost use Rattle.log_record.specs.Record.{change_of, page_op_of};
 

@@ -1,3 +1,5 @@
+//! A record is written as a text of 672 bytes, and read back.
+
 ghost use Rattle.std.specs.Prelude.{◌≡◌, IfSome, Some};
 ghost use Rattle.log_record.specs.declared.fields.Fields.{Fields};
 ghost use Rattle.log_record.specs.declared.record.LogRecord.{LogRecord};

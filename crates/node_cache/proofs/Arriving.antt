@@ -9,6 +9,7 @@ use Rattle.std.proofs.lemmas.List.Elements.{All-push}
 use Rattle.std.proofs.lemmas.List.Folds.{find-append}
 use Rattle.std.proofs.lemmas.List.Quantifiers.{all_pairs_push}
 use Rattle.sd_base.specs.Shape.{page_count}
+use Rattle.sd_base.specs.Places.{place_of_page}
 use Rattle.sd_base.specs.declared.device.NodeId.{NodeId}
 use Rattle.sd_base.specs.declared.names.PageNo.{PageNo}
 use Rattle.sd_base.specs.declared.shape.Shape.{Shape}
@@ -23,7 +24,7 @@ use Rattle.space_map.specs.declared.map_entry.MapEntry.TheVariants.{Free, Used}
 use Rattle.state_ids.specs.Blocks.{FitsPage}
 use Rattle.state_ids.specs.Held.{KeepsFrames}
 use Rattle.node_cache.specs.Cache.{CachedPage, CacheState, IsCache, IsOfStore, is_page, page_at}
-use Rattle.node_cache.specs.Room.{IsEntryOf, place_in_map}
+use Rattle.node_cache.specs.Room.{IsEntryOf}
 use Rattle.node_cache.proofs.Finding.{all_at, some_found}
 use Rattle.node_cache.proofs.OnePage.{is_page-other}
 
@@ -103,9 +104,9 @@ fits_entry s pool c x e is = elim (cases_lt x.0 s.maps) [
   | inr high ↦
       let there = is.some high in
       let m = there.1 in
-      subst (FitsPage s x) (sym there.4) (by high m there.3.text.image (slice_get m.entries (place_in_map s x)) refl)
+      subst (FitsPage s x) (sym there.4) (by high m there.3.text.image (slice_get m.entries (place_of_page s x)) refl)
 ]
   where
-    by : s.maps ≤ x.0 → (m : MapImage) → IsMapImage m → (o : Option MapEntry) → slice_get m.entries (place_in_map s x) ≡ o → FitsPage s x o
+    by : s.maps ≤ x.0 → (m : MapImage) → IsMapImage m → (o : Option MapEntry) → slice_get m.entries (place_of_page s x) ≡ o → FitsPage s x o
     by high m image None at = tt
-    by high m image (Some f) at = (high, entry_ident f (all_at IsEntry m.entries (place_in_map s x) f image.entries at))
+    by high m image (Some f) at = (high, entry_ident f (all_at IsEntry m.entries (place_of_page s x) f image.entries at))

@@ -53,7 +53,7 @@ changed-life None op image kind same = refl
 changed-life (Some e) op (map_page m) kind same = refl
 changed-life (Some e) op (data_page v) kind same =
     let before = in_present e v same in
-    let after = changed-ident op (data_page v) kind in
+    let after = changed-ident op (data_page v) in
     present-in e _ (omega (arith, before, after))
 
 module _ (pool pool' : List (Option (List ℕ))) (pages : List CachedPage) (x : PageNo) (before number : ℕ) (op : PageOp) (once : AllPairs (λ p q. p.ticket.page ≢ q.ticket.page) pages) (apart : AllPairs (λ p q. p.frame ≢ q.frame) pages)

@@ -1,33 +1,8 @@
 -- What is found in a list, and where.
-use Rattle.std.specs.Prelude.{◌≡◌, ◌<◌, ◌≤◌, ℕ, zero, suc, Bool, true, false, List, [], ◌∷◌, Option, Some, None, is_some, length, slice_index_or, All, refl}
-use Rattle.std.specs.List.{slice_get, find, position, position_or_len}
-use Rattle.std.proofs.Common.{arith, nat_lt, cond, ap, sym, subst, ◌∙◌}
-use Rattle.std.proofs.lemmas.Bool.Decides.{nat_tests}
-use Rattle.std.proofs.lemmas.List.Folds.{find_at}
-
-past_end : {X : Type 0} (xs : List X) (n : ℕ) → length xs ≤ n → slice_get xs n ≡ None
-past_end [] n le = refl
-past_end (x ∷ xs) zero le = absurd (omega (arith, le))
-past_end (x ∷ xs) (suc n) le = past_end xs n (omega (arith, le))
-
--- where there is a place, it is below the end, and what is found stands there
-pub placed : {X : Type 0} (test : X → Bool) (xs : List X) (i : ℕ) → position test xs ≡ Some i → (i < length xs) × (find test xs ≡ slice_get xs i)
-placed test xs i e = by (nat_lt (position_or_len test xs) (length xs)) refl e
-  where
-    by : (b : Bool) → nat_lt (position_or_len test xs) (length xs) ≡ b → cond b (Some (position_or_len test xs)) None ≡ Some i → (i < length xs) × (find test xs ≡ slice_get xs i)
-    by true lt e =
-        let is : position_or_len test xs ≡ i = cc in
-        let below : position_or_len test xs < length xs = grind (arith, nat_tests) in
-        (subst (λ n. n < length xs) is below, find_at test xs ∙ ap (slice_get xs) is)
-    by false lt e = cc
-
--- where there is none, none is found
-pub not_placed : {X : Type 0} (test : X → Bool) (xs : List X) → position test xs ≡ None → find test xs ≡ None
-not_placed test xs none = find_at test xs ∙ past_end xs (position_or_len test xs) (by (nat_lt (position_or_len test xs) (length xs)) refl none)
-  where
-    by : (b : Bool) → nat_lt (position_or_len test xs) (length xs) ≡ b → cond b (Some (position_or_len test xs)) None ≡ None → length xs ≤ position_or_len test xs
-    by true e never = cc
-    by false e none = grind (arith, nat_tests)
+use Rattle.std.specs.Prelude.{◌≡◌, ◌<◌, ℕ, zero, suc, Bool, true, false, List, [], ◌∷◌, Option, Some, None, is_some, length, slice_index_or, All, refl}
+use Rattle.std.specs.List.{slice_get, find, position}
+use Rattle.std.proofs.Common.{arith, ap, sym, subst, ◌∙◌}
+use Rattle.sd_base.proofs.Positions.{placed, not_placed}
 
 -- what has a place is there
 there : {X : Type 0} (xs : List X) (i : ℕ) → i < length xs → is_some (slice_get xs i) ≡ true

@@ -7,7 +7,7 @@ use Rattle.std.proofs.lemmas.List.{same_lists}
 use Rattle.sd_base.specs.declared.names.PageNo.{PageNo}
 use Rattle.node_cache.specs.Cache.{CachedPage, Changes, first_change, has_changes, is_page, page_at, place_of, with_page, written_back}
 use Rattle.node_cache.specs.Places.{between, IsWrittenWithin}
-use Rattle.node_cache.proofs.Finding.{placed}
+use Rattle.sd_base.proofs.Positions.{placed}
 use Rattle.node_cache.proofs.OnePage.{found, others_stay, set_page}
 use Rattle.node_cache.proofs.PageWrites.{there_is}
 use Rattle.node_cache.proofs.Ranges.{at_between, length_between, one_between, one_within}

@@ -6,12 +6,14 @@ use Rattle.std.proofs.lemmas.Bool.{cases_lt}
 use Rattle.std.proofs.lemmas.List.Elements.{All-nil, All-cons}
 use Rattle.std.proofs.lemmas.Option.{slice_get-get_or}
 use Rattle.std.proofs.lemmas.Bool.Decides.{nat_tests}
+use Rattle.sd_base.specs.Places.{map_of_page}
 use Rattle.sd_base.specs.declared.names.PageNo.{PageNo}
 use Rattle.sd_base.specs.declared.shape.Shape.{Shape}
 use Rattle.node_cache.specs.Cache.{CachedPage, written_back}
 use Rattle.node_cache.specs.Places.{IsWrittenWithin, between}
-use Rattle.node_cache.specs.Room.{is_map_of, leaving, map_of, may_go, staying}
-use Rattle.node_cache.proofs.Finding.{all_at, got, not_placed, placed}
+use Rattle.node_cache.specs.Room.{is_map_of, leaving, may_go, staying}
+use Rattle.sd_base.proofs.Positions.{not_placed, placed}
+use Rattle.node_cache.proofs.Finding.{all_at, got}
 use Rattle.node_cache.proofs.FlushLaws.{empty_within}
 use Rattle.node_cache.proofs.Packing.{first_passes, first_fails}
 use Rattle.node_cache.proofs.PageWrites.{there_is}
@@ -24,7 +26,7 @@ both_are some m n k first second = grind (arith, nat_tests)
 
 -- a page has one map page at the most
 one_map : (s : Shape) (x m n : PageNo) → is_map_of s m x ≡ true → is_map_of s n x ≡ true → m ≡ n
-one_map s x m n first second = ap (λ k. record { 0 = k }) (both_are _ m.0 n.0 (map_of s x).0 first second)
+one_map s x m n first second = ap (λ k. record { 0 = k }) (both_are _ m.0 n.0 (map_of_page s x).0 first second)
 
 -- where the first page is the map page of x, the second one may go
 pub second_goes : (s : Shape) (x : PageNo) (pages : List CachedPage) (p : CachedPage) → 2 ≤ length pages → AllPairs (λ p q. p.ticket.page ≢ q.ticket.page) pages

@@ -18,3 +18,4 @@ pub mod Stopping
 pub mod RoomLaws
 pub mod ArrivedTie
 pub mod Owning
+pub mod ChangedPages

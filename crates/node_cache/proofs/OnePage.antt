@@ -9,7 +9,8 @@ use Rattle.std.proofs.lemmas.List.Elements.{All-map}
 use Rattle.std.proofs.lemmas.List.Folds.{find_at}
 use Rattle.sd_base.specs.declared.names.PageNo.{PageNo}
 use Rattle.node_cache.specs.Cache.{CachedPage, is_page, with_page, page_at, place_of}
-use Rattle.node_cache.proofs.Finding.{got, placed}
+use Rattle.sd_base.proofs.Positions.{placed}
+use Rattle.node_cache.proofs.Finding.{got}
 
 pub tail_pairs : {X : Type 0} (R : X → X → Type 0) (x : X) (xs : List X) → AllPairs R (x ∷ xs) → AllPairs R xs
 tail_pairs R x xs all i j d before below = all (suc i) (suc j) d (omega (arith, before)) (omega (arith, below))

@@ -1,6 +1,7 @@
 -- How a page comes into a cache: which page makes room for it, and what it brings.
-use Rattle.std.specs.Prelude.{◌≡◌, ◌⊎◌, ◌-◌, ◌/◌, ◌%◌, ◌<◌, ◌≤◌, ◌==◌, ◌&&◌, ◌++◌, ℕ, Bool, not, nat_le, nat_lt, List, [], ◌∷◌, Option, Some, None, fold, length, slice_set, if◌then◌else◌}
+use Rattle.std.specs.Prelude.{◌≡◌, ◌⊎◌, ◌<◌, ◌≤◌, ◌==◌, ◌&&◌, ◌++◌, ℕ, Bool, not, nat_le, nat_lt, List, [], ◌∷◌, Option, Some, None, fold, length, slice_set, if◌then◌else◌}
 use Rattle.std.specs.List.{find, position, remove, slice_get}
+use Rattle.sd_base.specs.Places.{map_of_data, map_of_page, place_of_page}
 use Rattle.sd_base.specs.declared.device.NodeId.{NodeId}
 use Rattle.sd_base.specs.declared.names.PageNo.{PageNo}
 use Rattle.sd_base.specs.declared.shape.Shape.{Shape}
@@ -14,21 +15,14 @@ use Rattle.state_ids.specs.Held.{Shows}
 use Rattle.state_ids.specs.Blocks.{ShowsPage}
 use Rattle.node_cache.specs.Cache.{CachedPage, CacheState, page_at}
 
--- the map page that has the entry of a data page, and the place of the entry in it
-abbrev pub map_of : Shape → PageNo → PageNo
-map_of s x = record { 0 = (x.0 - s.maps) / 252 }
-
-abbrev pub place_in_map : Shape → PageNo → ℕ
-place_in_map s x = (x.0 - s.maps) % 252
-
 -- whether x is a data page, and m the map page that has its entry
 abbrev pub is_map_of : Shape → PageNo → PageNo → Bool
-is_map_of s m x = nat_le s.maps x.0 && m.0 == (map_of s x).0
+is_map_of s m x = nat_le s.maps x.0 && m.0 == (map_of_page s x).0
 
 -- The entry of a page: that of a data page stands in its map page, which is cached; a map page has none.
 pub record IsEntryOf (s : Shape) (pool : List (Option (List ℕ))) (c : CacheState) (x : PageNo) (e : Option MapEntry) : Type 0 where
   pub none : x.0 < s.maps → e ≡ None
-  pub some : s.maps ≤ x.0 → (p : CachedPage) × (m : MapImage) × (page_at (map_of s x) c.pages ≡ Some p) × Shows pool p.frame (map_page m) × (e ≡ slice_get m.entries (place_in_map s x))
+  pub some : s.maps ≤ x.0 → (p : CachedPage) × (m : MapImage) × (page_at (map_of_data s x) c.pages ≡ Some p) × Shows pool p.frame (map_page m) × (e ≡ slice_get m.entries (place_of_page s x))
 
 -- whether a cached page may make room for x: it isn't the map page of x
 abbrev pub may_go : Shape → PageNo → CachedPage → Bool

@@ -1,3 +1,5 @@
+//! The cache of a node, and what can be asked of it without a device.
+
 ghost use Rattle.std.specs.Prelude.{◌≡◌, [], All, IfNone, IfSome, IsTrue, Some};
 ghost use Rattle.std.specs.Borrow.{sem};
 ghost use Rattle.frame_pool.specs.Frames.{frame_at};

@@ -1,3 +1,5 @@
+//! A cached page is changed: first its log record is appended, then its frame is written.
+
 ghost use Rattle.std.specs.Prelude.{◌≡◌, ◌≢◌, ◌+◌, ◌%◌, ◌≤◌, ℕ, [], ◌∷◌, ◌++◌, List, Option, Some, None, true, false, IsTrue, IsSome, IsOk, IfOk, IfErr, OnOk, OnErr};
 ghost use Rattle.sd_base.specs.Disk.{BlockState, IsOutcome};
 ghost use Rattle.sd_base.specs.Calls.{Keeps, NoNewWriterBut, KeepsForeignBut};

@@ -1,3 +1,5 @@
+//! The end of a cache whose node has stopped: frames are given back, and pages parked.
+
 ghost use Rattle.std.specs.Prelude.{◌≡◌, ◌≢◌, ◌+◌, ℕ, false, [], None, All, AllPairs, length, replicate};
 ghost use Rattle.sd_base.specs.Disk.{IsPort};
 ghost use Rattle.frame_pool.specs.Frames.{IsOut, free_count};

@@ -1,3 +1,5 @@
+//! A page comes into the cache, and where the cache is full another one leaves it.
+
 ghost use Rattle.std.specs.Prelude.{◌≡◌, ◌≢◌, ◌⊎◌, ◌+◌, ◌≤◌, ◌<◌, ℕ, List, Option, Some, None, true, false, All, AllPairs, IsTrue, IsOk, IfSome, IfOk, IfErr, OnOk, OnErr, MatchResult, [], length, slice_set};
 ghost use Rattle.std.specs.List.{position, remove, slice_get};
 ghost use Rattle.sd_base.specs.Disk.{IsPort, IsFreeFor, IsOutcome};
@@ -25,14 +27,16 @@ use crate::slot::Slot;
 use frame_pool::Pool;
 use page_owner::{Own, Owners, Ticket};
 use sd_base::{DevFault, Disk, NodeId, PageNo, Shape};
-use space_map::{ENTRIES, MapEntry};
+use space_map::MapEntry;
 use state_ids::{load, test_block};
 
 /// Whether `x` is a data page whose entry stands in the map page `m`.
 fn is_map_of(s: &Shape, m: PageNo, x: PageNo) -> bool
+    requires valid { IsShape s.now }
+    requires page { x.0 < page_count s.now }
     ensures { result ≡ is_map_of s.now m x }
 {
-    x.0 >= s.maps && m.0 == (x.0 - s.maps) / u32::from(ENTRIES)
+    x.0 >= s.maps && m == s.map_of_page(x)
 }
 
 /// Takes a page that is nobody's, or that the node has parked.
@@ -53,7 +57,9 @@ impl NodeCache {
     /// The place of the page that makes room for `x` in a full cache: the first one that isn't the map
     /// page of `x`.
     fn leaving_place(&self, s: &Shape, x: PageNo) -> usize
-        requires { length self.now.pages ≡ 16 }
+        requires full { length self.now.pages ≡ 16 }
+        requires valid { IsShape s.now }
+        requires page { x.0 < page_count s.now }
         ensures { position (may_go s.now x) self.now.pages ≡ Some result }
     {
         if is_map_of(s, self.pages.slot(0).page(), x) {
@@ -92,6 +98,7 @@ impl NodeCache {
         x: PageNo,
     ) -> Result<(), DevFault>
         requires store { IsOfStore s.now self.old }
+        requires page { x.0 < page_count s.now }
         requires owned { All (λ p. owner_of owners.old p.ticket.page.0 ≡ Out p.ticket.node) self.old.pages }
         requires out { AreOut pool.old self.old }
         requires frame { length self.old.pages < 16 → 0 < free_count pool.old }

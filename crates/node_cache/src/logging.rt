@@ -1,3 +1,5 @@
+//! Records that change no page are appended to the log, and the log is made stable.
+
 ghost use Rattle.std.specs.Prelude.{◌≡◌, ◌≢◌, ◌+◌, ◌%◌, ◌≤◌, ℕ, [], ◌∷◌, ◌++◌, List, Option, None, true, false, IsTrue, IsOk, IfOk, IfErr, OnOk, OnErr};
 ghost use Rattle.sd_base.specs.Disk.{IsPort, IsOutcome};
 ghost use Rattle.sd_base.specs.Calls.{Keeps, NoNewWriterBut, KeepsForeignBut};

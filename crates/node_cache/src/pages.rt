@@ -1,3 +1,5 @@
+//! The list of the cached pages, in the order in which they came in.
+
 ghost use Rattle.std.specs.Prelude.{◌≡◌, ◌≢◌, true, false, IsTrue, IsOk, IfErr, OnOk, OnErr, ◌+◌, ◌<◌, ◌-◌, ◌≤◌, ◌++◌, ℕ, List, Some, None, replicate, slice_set, slice_index_or, IsSome, [], ◌∷◌, length};
 ghost use Rattle.std.specs.List.{position, remove, slice_get};
 ghost use Rattle.sd_base.specs.Disk.{IsPort, IsFreeFor, Holds};

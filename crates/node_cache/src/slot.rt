@@ -1,3 +1,5 @@
+//! One cached page: it is as on its block, or has changes that its block hasn't.
+
 ghost use Rattle.std.specs.Prelude.{◌≡◌, ◌≢◌, ◌<◌, ℕ, List, Some, None, true, false, IsTrue, IsOk, IfErr, OnOk, OnErr};
 ghost use Rattle.sd_base.specs.Disk.{IsPort, IsFreeFor, Holds};
 ghost use Rattle.sd_base.specs.Calls.{Keeps, NarrowsBut, NoNewWriter, KeepsForeignBut};

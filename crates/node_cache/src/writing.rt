@@ -1,3 +1,5 @@
+//! Changed pages are written to their blocks, after the log was made stable.
+
 ghost use Rattle.std.specs.Prelude.{◌≡◌, ◌≢◌, ◌+◌, ◌≤◌, ◌<◌, ℕ, [], List, Option, None, true, false, All, AllPairs, IsTrue, IsOk, IfOk, IfErr, OnOk, OnErr, count_by, length, map};
 ghost use Rattle.std.specs.List.{cons_option};
 ghost use Rattle.sd_base.specs.Disk.{IsPort, IsOutcome};

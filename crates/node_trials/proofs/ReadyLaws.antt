@@ -1,13 +1,11 @@
 -- What the calls of a cache leave of what their caller carries.
-use Rattle.std.specs.Prelude.{◌≡◌, ◌⊎◌, ◌+◌, ◌≤◌, ◌<◌, ℕ, zero, suc, Bool, true, false, IsTrue, List, [], ◌∷◌, Option, Some, None, Result, Ok, Err, IsOk, IfSome, OnOk, OnErr, All, is_some, is_none, nat_lt, length, slice_set, map, replicate, refl, if◌then◌else◌}
-use Rattle.std.specs.List.{find, cons_option}
+use Rattle.std.specs.Prelude.{◌≡◌, ◌⊎◌, ◌+◌, ◌≤◌, ◌<◌, ℕ, zero, suc, Bool, true, false, IsTrue, List, [], Option, Some, None, Result, Ok, Err, IsOk, IfSome, OnOk, OnErr, All, is_some, length, slice_set, map, replicate, refl}
+use Rattle.std.specs.List.{cons_option}
 use Rattle.std.proofs.Common.{arith, ap, subst, sym, inl, inr, ◌∙◌, length-set}
 use Rattle.std.proofs.lemmas.List.Elements.{All-cons}
-use Rattle.std.proofs.lemmas.List.Sums.{sum_by-set}
 use Rattle.sd_base.specs.Disk.{BlockState, DiskState, IsFreeFor}
 use Rattle.sd_base.specs.Calls.{Keeps, NoNewWriterBut}
 use Rattle.sd_base.specs.Faults.{StaysLive}
-use Rattle.sd_base.specs.Shape.{page_count}
 use Rattle.sd_base.specs.declared.fault.DevFault.{DevFault}
 use Rattle.sd_base.specs.declared.fault.DevFault.TheVariants.{Stopped, Failed, Lost, Damaged}
 use Rattle.sd_base.specs.declared.device.NodeId.{NodeId}
@@ -15,7 +13,6 @@ use Rattle.sd_base.specs.declared.names.PageNo.{PageNo}
 use Rattle.sd_base.specs.declared.page_op.PageOp.{PageOp}
 use Rattle.sd_base.specs.declared.shape.Shape.{Shape}
 use Rattle.frame_pool.specs.Frames.{IsOut, frame_at, free_count}
-use Rattle.frame_pool.proofs.PoolLaws.{IsOut-within}
 use Rattle.page_image.specs.declared.page_view.PageView.{PageView}
 use Rattle.page_image.specs.Image.{IsTextOf}
 use Rattle.space_map.specs.Image.{MapImage, IsMapText}
@@ -26,13 +23,17 @@ use Rattle.private_log.specs.Log.{SameLog}
 use Rattle.state_ids.specs.PageImage.{PageImage, data_page, map_page, page_of}
 use Rattle.state_ids.specs.Held.{Shows, KeepsFrames}
 use Rattle.state_ids.specs.Blocks.{IsOfKind, ShowsPage, page_place}
-use Rattle.state_ids.proofs.PageLaws.{Shows-out, Shows-text}
+use Rattle.state_ids.proofs.PageLaws.{Shows-text}
 use Rattle.node_cache.specs.Cache.{CachedPage, CacheState, AreOut, AreOwned, AreShown, FitsCached, IsOfStore, IsTiedToLog, SamePages, changed_by, is_cached, is_page, page_at, with_page, written_back}
-use Rattle.node_cache.specs.Room.{Missed, leaving, may_go, parked}
+use Rattle.node_cache.specs.Room.{Missed, leaving, parked}
 use Rattle.node_cache.specs.Writes.{AreInReach}
 use Rattle.node_cache.proofs.OnePage.{found, is_page-same}
-use Rattle.node_cache.proofs.SamePages.{all_same, cached_same, same_length, with_same}
+use Rattle.node_cache.proofs.SamePages.{all_same, same_length, with_same}
 use Rattle.node_trials.specs.Bench.{IsBroken, IsReady, IsViewed, IsWhole}
+use Rattle.sd_base.proofs.Positions.{find_all}
+use Rattle.node_cache.proofs.ChangedPages.{free_kept, out_of_shown, owned_same, store_same}
+use Rattle.node_cache.proofs.Leaving.{all_left}
+use Rattle.node_cache.proofs.Parking.{length-parked}
 
 -- what follows where a call was done
 pub ok_given : {T E Q : Type 0} (r : Result T E) → (IsOk r → Q) → OnOk r Q
@@ -51,15 +52,6 @@ live_then (Err (Failed n)) p f = tt
 live_then (Err (Lost at)) p f = f p
 live_then (Err (Damaged at)) p f = f p
 
--- what holds of all holds of the one that is found
-pub all_found : {X : Type 0} (P : X → Type 0) (test : X → Bool) (xs : List X) (x : X) → All P xs → find test xs ≡ Some x → P x
-all_found P test [] x all e = cc
-all_found P test (y ∷ ys) x all e = by (test y) e (all_found P test ys x (λ i d below. all (suc i) d (omega (arith, below))))
-  where
-    by : (b : Bool) → (if b then Some y else find test ys) ≡ Some x → (find test ys ≡ Some x → P x) → P x
-    by true e rest = let same : y ≡ x = cc in subst P same (all 0 y (omega arith))
-    by false e rest = rest e
-
 -- a cached page that was looked at
 pub viewed : (s : Shape) (pool : List (Option (List ℕ))) (c : CacheState) (x : PageNo) (bytes : List ℕ) → AreShown s pool c → IsTrue (is_cached x c) → IfSome (page_at x c.pages) (λ p. frame_at pool p.frame ≡ Some bytes)
     → IsViewed s pool c.pages x bytes
@@ -68,7 +60,7 @@ viewed s pool c x bytes shown cached holds = by (page_at x c.pages) refl cached 
     by : (o : Option CachedPage) → page_at x c.pages ≡ o → IsTrue (is_some o) → IfSome o (λ p. frame_at pool p.frame ≡ Some bytes) → IsViewed s pool c.pages x bytes
     by None e cached holds = cc
     by (Some p) e cached holds =
-        let there = all_found (λ q. ShowsPage s q.ticket.page pool q.frame) (is_page x) c.pages p shown e in
+        let there = find_all (λ q. ShowsPage s q.ticket.page pool q.frame) (is_page x) c.pages p e shown in
         record { page = p; there = e; image = there.0; shows = there.1; number = there.2 ∙ is_page-same x p (found (is_page x) c.pages p e); kind = there.3; held = holds }
 
 -- a page is of the kind that its number says
@@ -101,38 +93,22 @@ viewed_map s pool pages x bytes low v = by v.image v.shows v.number v.kind
     by (data_page w) shows number kind = absurd (omega (arith, kind, low, ap (λ (y : PageNo). y.0) number))
     by (map_page m) shows number kind = record { page = v.page; there = v.there; image = m; shows = shows; text = Shows-text pool v.page.frame (map_page m) bytes shows v.held }
 
-pub all_leaving : (P : CachedPage → Type 0) (s : Shape) (x : PageNo) (pages : List CachedPage) → All P pages → All P (leaving s x pages)
-all_leaving P s x pages all = by (nat_lt (length pages) 16) refl
-  where
-    some : nat_lt (length pages) 16 ≡ false → (o : Option CachedPage) → find (may_go s x) pages ≡ o → All P (leaving s x pages)
-    some full None e = rw (full, e) (λ i d below. absurd (omega (arith, below)))
-    some full (Some p) e = rw (full, e) (All-cons P p [] (all_found P (may_go s x) pages p all e) (λ i d below. absurd (omega (arith, below))))
-
-    by : (b : Bool) → nat_lt (length pages) 16 ≡ b → All P (leaving s x pages)
-    by true few = rw few (λ i d below. absurd (omega (arith, below)))
-    by false full = some full (find (may_go s x) pages) refl
-
 -- the blocks of cached pages are those of the store
 pub in_reach : (s : Shape) (told : Bool) (d : DiskState) (pool : List (Option (List ℕ))) (owners : List Own) (c : CacheState) → IsReady s told d pool owners c → AreInReach s c.pages d.reach
 in_reach s told d pool owners c was k e below = let within = was.store.pages k e below in was.whole _ (omega (arith, within))
 
 pub leaving_in_reach : (s : Shape) (told : Bool) (d : DiskState) (pool : List (Option (List ℕ))) (owners : List Own) (c : CacheState) (x : PageNo) → IsReady s told d pool owners c → AreInReach s (leaving s x c.pages) d.reach
-leaving_in_reach s told d pool owners c x was = all_leaving (λ p. d.reach (page_place s p.ticket.page) ≡ true) s x c.pages (in_reach s told d pool owners c was)
+leaving_in_reach s told d pool owners c x was = all_left (λ p. d.reach (page_place s p.ticket.page) ≡ true) s x c.pages (in_reach s told d pool owners c was)
 
 pub all_at : (P : CachedPage → Type 0) (x : PageNo) (pages : List CachedPage) → All P pages → All P (cons_option (page_at x pages) [])
 all_at P x pages all = by (page_at x pages) refl
   where
     by : (o : Option CachedPage) → page_at x pages ≡ o → All P (cons_option (page_at x pages) [])
     by None e = rw e (λ i d below. absurd (omega (arith, below)))
-    by (Some p) e = rw e (All-cons P p [] (all_found P (is_page x) pages p all e) (λ i d below. absurd (omega (arith, below))))
+    by (Some p) e = rw e (All-cons P p [] (find_all P (is_page x) pages p e all) (λ i d below. absurd (omega (arith, below))))
 
 pub page_in_reach : (s : Shape) (told : Bool) (d : DiskState) (pool : List (Option (List ℕ))) (owners : List Own) (c : CacheState) (x : PageNo) → IsReady s told d pool owners c → AreInReach s (cons_option (page_at x c.pages) []) d.reach
 page_in_reach s told d pool owners c x was = all_at (λ p. d.reach (page_place s p.ticket.page) ≡ true) x c.pages (in_reach s told d pool owners c was)
-
--- the table has as many pages as before
-pub length-parked : (pages : List CachedPage) (owners : List Own) → length (parked pages owners) ≡ length owners
-length-parked [] owners = refl
-length-parked (p ∷ pages) owners = length-parked pages (slice_set owners p.ticket.page.0 (Parked p.ticket.node)) ∙ length-set owners _ _
 
 -- the device, through the calls of the node
 pub still_whole : (s : Shape) (n : ℕ) (d d' : DiskState) → Keeps n d d' → IsWhole s d → IsWhole s d'
@@ -145,47 +121,16 @@ still_free at n b b' writers free k = elim (writers k) [
   | inr (inr here) ↦ inl here.1
 ]
 
--- the pages that are out at the node are still those of the cache
-pub still_owned : (owners : List Own) (c c' : CacheState) → c'.node ≡ c.node → SamePages c.pages c'.pages → AreOwned owners c → AreOwned owners c'
-still_owned owners c c' node same owned x =
-    let cached = cached_same x c.pages c'.pages same in
-    (λ out. cached ∙ (owned x).0 (out ∙ ap Out node), λ is. (owned x).1 (sym cached ∙ is) ∙ ap Out (sym node))
-
-pub still_of_store : (s : Shape) (c c' : CacheState) → c'.node ≡ c.node → SameLog c.log c'.log → SamePages c.pages c'.pages → IsOfStore s c → IsOfStore s c'
-still_of_store s c c' node log same store = record {
-  valid = store.valid;
-  shape = log.shape ∙ store.shape;
-  node = subst (λ (m : NodeId). (1 ≤ m.0) × (m.0 ≤ s.nodes)) (sym node) store.node;
-  pages = all_same (λ p. p.ticket.page.0 < page_count s) c.pages c'.pages same store.pages;
-}
-
--- each frame that shows its page is out
-pub out_of_shown : (s : Shape) (pool : List (Option (List ℕ))) (c : CacheState) → AreShown s pool c → AreOut pool c
-out_of_shown s pool c shown k d below = let here = shown k d below in Shows-out pool _ here.0 here.1
-
--- a frame that was written is out as before, so as many are free
-pub free_kept : (f : ℕ) (pool pool' : List (Option (List ℕ))) → KeepsFrames f pool pool' → IsOut pool f → IsOut pool' f → free_count pool' ≡ free_count pool
-free_kept f pool pool' keeps out out' =
-    let after : free_count pool' + counted (frame_at pool f) ≡ free_count pool + counted (frame_at pool' f) = ap (λ p. free_count p + counted (frame_at pool f)) keeps ∙ sum_by-set counted pool f (frame_at pool' f) None (IsOut-within pool f out) in
-    omega (arith, after, none_counted (frame_at pool f) out, none_counted (frame_at pool' f) out')
-  where
-    counted : Option (List ℕ) → ℕ
-    counted o = if is_none o then 1 else 0
-
-    none_counted : (o : Option (List ℕ)) → IsTrue (is_some o) → counted o ≡ 0
-    none_counted None out = cc
-    none_counted (Some bytes) out = refl
-
 -- What a caller carries, after a call that left the same pages.
 module _ (s : Shape) (told : Bool) (d d' : DiskState) (pool pool' : List (Option (List ℕ))) (owners : List Own) (c c' : CacheState) (at : ℕ) (was : IsReady s told d pool owners c)
     (keeps : Keeps c.node.0 d d') (live : d'.live c.node.0 ≡ true) (writers : IsTrue told → NoNewWriterBut at c.node.0 d.block d'.block) (node : c'.node ≡ c.node) (log : SameLog c.log c'.log) (tie : IsTiedToLog c') where
   pub ready_same : SamePages c.pages c'.pages → AreShown s pool' c' → free_count pool' ≡ free_count pool → IsReady s told d' pool' owners c'
   ready_same same shown free = record {
-    store = still_of_store s c c' node log same was.store;
+    store = store_same s c c' node log same was.store;
     log_tie = tie;
     out = out_of_shown s pool' c' shown;
     shown = shown;
-    owned = still_owned owners c c' node same was.owned;
+    owned = owned_same owners c c' node same was.owned;
     table = was.table;
     frames = omega (arith, was.frames, free, same_length c.pages c'.pages same);
     live = ap (λ (m : NodeId). d'.live m.0) node ∙ live;
@@ -203,7 +148,7 @@ module _ (s : Shape) (told : Bool) (d d' : DiskState) (pool pool' : List (Option
       let same : SamePages c.pages c'.pages = ap (map written_back) pages ∙ with_same x (changed_by number) (λ q. refl) c.pages in
       let out = all_same (λ q. IsOut pool' q.frame) c'.pages c.pages (sym same) (out_of_shown s pool' c' shows) in
       ready_same same shows
-      (free_kept p.frame pool pool' frames (all_found (λ q. IsOut pool q.frame) (is_page x) c.pages p was.out there) (all_found (λ q. IsOut pool' q.frame) (is_page x) c.pages p out there))
+      (free_kept p.frame pool pool' frames (find_all (λ q. IsOut pool q.frame) (is_page x) c.pages p there was.out) (find_all (λ q. IsOut pool' q.frame) (is_page x) c.pages p there out))
 
   -- a page was changed by a record
   pub ready_changed : (o : Option (PageNo × ℕ × PageOp)) → IsTrue (is_some o) → ((x : PageNo) (ident : ℕ) (op : PageOp) → o ≡ Some (x, ident, op) → FitsCached pool c.pages x ident op)
@@ -220,7 +165,7 @@ pub broken_written : (s : Shape) (told : Bool) (d d' : DiskState) (pool : List (
 broken_written s told d d' pool owners c c' was keeps stopped node same = record {
   stopped = ap (λ (m : NodeId). d'.live m.0) node ∙ stopped;
   out = all_same (λ q. IsOut pool q.frame) c.pages c'.pages same was.out;
-  owned = still_owned owners c c' node same was.owned;
+  owned = owned_same owners c c' node same was.owned;
   table = was.table;
   whole = still_whole s c.node.0 d d' keeps was.whole;
 }

@@ -1,6 +1,6 @@
 -- What the calls of the seats leave of what their caller carries.
-use Rattle.std.specs.Prelude.{◌≡◌, ◌<◌, ℕ, zero, suc, Bool, true, false, IsTrue, List, [], ◌∷◌, Option, Some, None, Result, Ok, Err, OnOk, is_some, length, slice_index_or, slice_set, refl}
-use Rattle.std.proofs.Common.{arith, ap, inl, inr, sym, subst, ◌∙◌}
+use Rattle.std.specs.Prelude.{◌≡◌, ◌<◌, ℕ, zero, suc, Bool, true, IsTrue, List, [], ◌∷◌, Option, Some, None, Result, Ok, Err, OnOk, length, slice_index_or, slice_set, refl}
+use Rattle.std.proofs.Common.{ap, inl, inr, sym, subst, ◌∙◌}
 use Rattle.std.proofs.lemmas.Bool.{cases_eq}
 use Rattle.std.proofs.lemmas.List.{get_or-set_other}
 use Rattle.std.proofs.lemmas.Grind.{get_or-set_at}
@@ -10,10 +10,8 @@ use Rattle.sd_base.specs.Faults.{StaysLive}
 use Rattle.sd_base.specs.declared.fault.DevFault.{DevFault}
 use Rattle.sd_base.specs.declared.shape.Shape.{Shape}
 use Rattle.page_owner.specs.declared.owners.Own.{Own}
-use Rattle.private_log.specs.Log.{SameLog}
 use Rattle.node_cache.specs.Cache.{CacheState}
-use Rattle.txn_core.specs.Seats.{AreTied, OpenTxn, SeatsState, is_busy, txn_in}
-use Rattle.txn_core.proofs.SeatLaws.{all_longer}
+use Rattle.txn_core.specs.Seats.{OpenTxn, SeatsState}
 use Rattle.node_trials.specs.Bench.{IsReady}
 use Rattle.node_trials.specs.SeatBench.{AreCounted}
 use Rattle.node_trials.proofs.ReadyLaws.{ready_written}
@@ -27,14 +25,6 @@ pub alive : {T P : Type 0} (r : Result T DevFault) (x : T) → r ≡ Ok x → St
 alive (Ok y) x is p = p
 alive (Err e) x is p = cc
 
--- a busy seat has a transaction
-pub txn_of : (s : SeatsState) (seat : ℕ) → IsTrue (is_busy s seat) → (t : OpenTxn) × (txn_in s seat ≡ Some t)
-txn_of s seat busy = by (txn_in s seat) refl busy
-  where
-    by : (o : Option OpenTxn) → txn_in s seat ≡ o → IsTrue (is_some o) → (t : OpenTxn) × (txn_in s seat ≡ Some t)
-    by None is some = absurd (let never : false ≡ true = some in cc)
-    by (Some t) is some = (t, is)
-
 -- no block has a new writer, and so none but for one
 pub none_but : (at n : ℕ) (b b' : ℕ → BlockState) → NoNewWriter b b' → NoNewWriterBut at n b b'
 none_but at n b b' none k = elim (none k) [ inl same ↦ inl same | inr gone ↦ inr (inl gone) ]
@@ -44,19 +34,6 @@ pub ready_read : (s : Shape) (told : Bool) (d d' : DiskState) (pool : List (Opti
     → IsReady s told d' pool owners c
 ready_read s told d d' pool owners c was keeps live writers =
     ready_written s told d d' pool pool owners c c 0 was keeps live (λ t. none_but 0 c.node.0 d.block d'.block (writers t)) refl (record { shape = refl; node = refl; start = refl }) was.log_tie refl refl
-
--- the tie of the seats, through a call that leaves the log as long as it was
-pub tied_same : (s : SeatsState) (c d : CacheState) → d.node ≡ c.node → SameLog c.log d.log → d.log.tail ≡ c.log.tail → AreTied s c → AreTied s d
-tied_same s c d node same tail tie =
-    let ring : d.log.shape.ring ≡ c.log.shape.ring = ap (λ shape. shape.ring) same.shape in
-    let start = same.start in
-    let room = tie.room in
-    record {
-      node = tie.node ∙ sym node;
-      room = omega (arith, ring, start, tail, room);
-      within = all_longer c.log d.log s.seats start (omega (arith, tail)) tie.within;
-      apart = tie.apart;
-    }
 
 -- what stands in a seat that was set
 own_of : (xs : List (Option OpenTxn)) (k : ℕ) (o t : OpenTxn) → slice_index_or (slice_set xs k (Some o)) k None ≡ Some t → o ≡ t

@@ -16,7 +16,7 @@ abbrev pub IsWhole : Shape → DiskState → Type 0
 IsWhole s d = (k : ℕ) → k < disk_need s → d.reach k ≡ true
 
 -- Port n may be used on the whole store, and no block has an uncovered write.
-pub record IsQuiet (s : Shape) (n : ℕ) (told : Bool) (d : DiskState) : Type 0 where
+pub record IsReadyDevice (s : Shape) (n : ℕ) (told : Bool) (d : DiskState) : Type 0 where
   pub live : d.live n ≡ true
   pub whole : IsWhole s d
   pub quiet : IsTrue told → (k : ℕ) → (d.block k).writer ≡ None

@@ -1,3 +1,5 @@
+//! A seat is used again: after a commit, after an abort, and beside other transactions.
+
 use crate::reading::{check_log, check_page};
 use crate::records::{PAGE, abort, commit, of, restore, set};
 use crate::seat_bench::SeatBench;

@@ -1,3 +1,5 @@
+//! A bench to try a node's cache on: it checks what each call requires before it makes it.
+
 ghost use Rattle.std.specs.Prelude.{◌≡◌, ◌+◌, ◌≤◌, ◌<◌, ℕ, Some, IfOk, IfErr, IsSome, OnOk, OnErr, length};
 ghost use Rattle.sd_base.specs.Faults.{OnStop, StaysLive};
 ghost use Rattle.sd_base.specs.declared.names.PageNo.{PageNo};
@@ -10,7 +12,7 @@ ghost use Rattle.log_record.specs.Record.{page_op_of};
 ghost use Rattle.private_log.specs.Log.{SameLog};
 ghost use Rattle.node_cache.specs.Cache.{FitsCached};
 ghost use Rattle.node_cache.specs.Room.{IsEntryOf};
-ghost use Rattle.node_trials.specs.Bench.{IsBroken, IsQuiet, IsReady, IsViewed, IsWhole};
+ghost use Rattle.node_trials.specs.Bench.{IsBroken, IsReadyDevice, IsReady, IsViewed, IsWhole};
 
 use crate::store::{MAP, NODE, PAGES, SHAPE, value};
 use crate::watched::WatchedDisk;
@@ -21,7 +23,7 @@ use page_image::{identifier, slot};
 use page_owner::{Own, Owners};
 use private_log::Log;
 use sd_base::{Block, DevFault, Disk, NodeId, PageNo, ReadAnswer, Value};
-use space_map::{ENTRIES, MapEntry, entry};
+use space_map::{MapEntry, entry};
 use std::process::Abort;
 
 /// The port through which a test looks at the device behind the node's back.
@@ -46,7 +48,7 @@ pub(crate) struct Remains<D> {
 impl<D: Disk + Drop> Bench<D> {
     /// A node with an empty cache. No page is anybody's yet.
     pub(crate) fn open(mut disk: D, pool: Pool, owners: Owners) -> Result<Bench<D>, DevFault>
-        requires quiet { IsQuiet SHAPE NODE.0 D.told (D.state disk) }
+        requires quiet { IsReadyDevice SHAPE NODE.0 D.told (D.state disk) }
         requires frames { 16 ≤ free_count pool }
         requires table { PAGES ≤ length owners }
         requires nobody { (x : ℕ) → owner_of owners x ≡ Nobody }
@@ -82,9 +84,8 @@ impl<D: Disk> Bench<D> {
         if x.0 < SHAPE.maps {
             return None;
         }
-        let place = x.0 - SHAPE.maps;
-        let map = PageNo(place / ENTRIES as u32);
-        Some(entry(self.view(rt, map), (place % ENTRIES as u32) as u8))
+        let map = self.view(rt, SHAPE.map_of_data(x));
+        Some(entry(map, SHAPE.place_of_page(x)))
     }
 
     /// Makes a page cached, whose map page is cached already.

@@ -1,3 +1,5 @@
+//! Which blocks a commit writes, and how much of the log a stop in it leaves.
+
 ghost use Rattle.std.specs.Prelude.{◌≤◌, length};
 ghost use Rattle.node_trials.specs.Bench.{IsWhole};
 ghost use Rattle.node_trials.specs.SeatBench.{IsSeated};

@@ -1,3 +1,5 @@
+//! Which pages count as changed, and from which log record on.
+
 ghost use Rattle.node_trials.specs.Bench.{IsReady};
 
 use crate::bench::Bench;

@@ -1,3 +1,5 @@
+//! Updates are taken back whose page has left the cache since.
+
 ghost use Rattle.std.specs.Prelude.{◌≤◌};
 ghost use Rattle.node_trials.specs.SeatBench.{IsSeated};
 

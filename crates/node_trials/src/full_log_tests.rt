@@ -1,3 +1,5 @@
+//! A transaction that has filled the log can still be taken back.
+
 ghost use Rattle.node_trials.specs.SeatBench.{IsSeated};
 
 use crate::reading::check_page;

@@ -1,3 +1,5 @@
+//! The log records of a page reach the device before the page does.
+
 ghost use Rattle.node_trials.specs.Bench.{IsReady};
 
 use crate::bench::Bench;

@@ -1,5 +1,7 @@
+//! Pages whose block is lost, damaged, or left over from an earlier life of the page.
+
 ghost use Rattle.std.specs.Prelude.{◌<◌, OnOk};
-ghost use Rattle.node_trials.specs.Bench.{IsQuiet, IsReady};
+ghost use Rattle.node_trials.specs.Bench.{IsReadyDevice, IsReady};
 
 use crate::bench::Bench;
 use crate::store::{
@@ -13,8 +15,8 @@ use std::test::Fail;
 /// Loses the block of page 2, and writes page 2 into that of page 3. The block of page 4 was never
 /// written.
 fn spoil<D: Disk>(disk: &mut D) -> Result<(), DevFault>
-    requires quiet { IsQuiet SHAPE NODE.0 D.told (D.state disk.old) }
-    ensures quiet { OnOk result (IsQuiet SHAPE NODE.0 D.told (D.state disk.new)) }
+    requires quiet { IsReadyDevice SHAPE NODE.0 D.told (D.state disk.old) }
+    ensures quiet { OnOk result (IsReadyDevice SHAPE NODE.0 D.told (D.state disk.new)) }
 {
     disk.lose(SHAPE.page_block(PageNo(2)));
     let other = born(PageNo(2), SHAPE.birth);
@@ -77,8 +79,8 @@ fn a_lost_or_damaged_page_is_parked(rt: HostRuntime) -> Result<(), Fail> {
 /// Writes images of earlier lives of pages 1 and 2, of which the second has the last identifier before
 /// the present life, and an image of the present life of page 3.
 fn leave_images<D: Disk>(rt: &impl Abort, disk: &mut D) -> Result<(), DevFault>
-    requires quiet { IsQuiet SHAPE NODE.0 D.told (D.state disk.old) }
-    ensures quiet { OnOk result (IsQuiet SHAPE NODE.0 D.told (D.state disk.new)) }
+    requires quiet { IsReadyDevice SHAPE NODE.0 D.told (D.state disk.old) }
+    ensures quiet { OnOk result (IsReadyDevice SHAPE NODE.0 D.told (D.state disk.new)) }
 {
     let stale = changed(rt, PageNo(1), 0, 1);
     put_block(disk, SHAPE.page_block(PageNo(1)), &stale)?;

@@ -1,3 +1,5 @@
+//! A transaction goes on after some of its updates were taken back.
+
 use crate::reading::{check_log, check_page};
 use crate::records::{PAGE, abort, append, commit, cut, of, restore, set};
 use crate::seat_bench::SeatBench;

@@ -1,3 +1,5 @@
+//! What a cached page and the log on the device hold, compared with what a test expects.
+
 ghost use Rattle.std.specs.Prelude.{◌≡◌, true};
 ghost use Rattle.node_trials.specs.Bench.{IsReady, IsWhole};
 

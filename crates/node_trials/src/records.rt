@@ -1,3 +1,5 @@
+//! Short ways to write down the log records that a test expects.
+
 use log_record::LogRecord;
 use sd_base::{PageNo, Value};
 use std::process::Abort;

@@ -1,3 +1,5 @@
+//! Which page leaves a full cache, and what its block holds then.
+
 ghost use Rattle.std.specs.Prelude.{◌<◌};
 ghost use Rattle.node_trials.specs.Bench.{IsReady};
 

@@ -1,3 +1,5 @@
+//! A bench to try transactions on: it checks what each call of the seats requires.
+
 ghost use Rattle.std.specs.Prelude.{◌≡◌, ◌+◌, ◌≤◌, ◌<◌, ◌^◌, ℕ, IsTrue, OnOk, OnErr, length};
 ghost use Rattle.page_image.specs.declared.page_view.PageView.{PageView};
 ghost use Rattle.compensation.specs.Inverse.{content};
@@ -12,7 +14,7 @@ use crate::watched::WatchedDisk;
 use page_image::{identifier, slot};
 use sd_base::{DevFault, Disk, PageNo, Value};
 use std::process::Abort;
-use txn_core::{Change, Seats};
+use txn_core::{Change, Ending, Seats};
 
 /// How many records the log has room for, and so how many updates a transaction may have at the most.
 const RECORDS: u64 = 48;
@@ -21,7 +23,7 @@ const RECORDS: u64 = 48;
 pub(crate) struct SeatBench<D> {
     pub(crate) bench: Bench<D>,
     pub(crate) seats: Seats,
-    /// Of each seat, how many updates of its transaction are left, as they were counted here: `end_abort`
+    /// Of each seat, how many updates of its transaction are left, as they were counted here: an abort's end
     /// asks that none are, and no call of the seats says how many.
     pub(crate) left: [u64; 8],
 }
@@ -206,8 +208,12 @@ impl<D: Disk> SeatBench<D> {
         ensures broken { OnErr result (IsBroken SHAPE (D.state self.new.bench.disk) self.new.bench.pool self.new.bench.owners self.new.bench.cache) }
     {
         self.check_busy(rt, seat);
-        self.seats
-            .commit(&mut self.bench.disk, &mut self.bench.cache, seat)
+        self.seats.end(
+            &mut self.bench.disk,
+            &mut self.bench.cache,
+            seat,
+            Ending::Commit,
+        )
     }
 
     /// Ends a transaction of which nothing is left.
@@ -222,7 +228,12 @@ impl<D: Disk> SeatBench<D> {
         assert_eq!(rt; left, 0);
         self.check_busy(rt, seat);
         self.seats
-            .end_abort(&mut self.bench.disk, &mut self.bench.cache, seat)
+            .end(
+                &mut self.bench.disk,
+                &mut self.bench.cache,
+                seat,
+                Ending::Abort,
+            )
             .expect(rt, "an end");
     }
 

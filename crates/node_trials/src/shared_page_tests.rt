@@ -1,3 +1,5 @@
+//! Three transactions change one page in turns, and one of them is taken back.
+
 use crate::reading::{check_log, check_page};
 use crate::records::{PAGE, abort, append, commit, cut, of, restore, set};
 use crate::seat_bench::SeatBench;

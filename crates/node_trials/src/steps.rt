@@ -1,3 +1,5 @@
+//! Tables of what transactions do, step by step, with what the seats say after each step.
+
 ghost use Rattle.std.specs.Prelude.{◌≤◌};
 ghost use Rattle.node_trials.specs.SeatBench.{IsSeated};
 

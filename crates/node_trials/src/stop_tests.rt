@@ -1,3 +1,5 @@
+//! A stop while pages are written leaves no page ahead of the log.
+
 ghost use Rattle.std.specs.Prelude.{◌≡◌, ◌≤◌, ◌<◌, true, length, OnOk};
 ghost use Rattle.node_trials.specs.Bench.{IsReady, IsWhole};
 

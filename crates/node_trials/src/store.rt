@@ -1,7 +1,9 @@
+//! The small store that the tests run on: its shape, its blocks, and its pages.
+
 ghost use Rattle.std.specs.Prelude.{◌≡◌, ◌+◌, ◌^◌, ◌≤◌, ◌<◌, ℕ, None, IsTrue, OnOk, IfOk};
 ghost use Rattle.sd_base.specs.Shape.{disk_need};
 ghost use Rattle.page_image.specs.Image.{IsTextOf, birth_image};
-ghost use Rattle.node_trials.specs.Bench.{IsQuiet, IsReady};
+ghost use Rattle.node_trials.specs.Bench.{IsReadyDevice, IsReady};
 
 use crate::bench::Bench;
 use crate::watched::WatchedDisk;
@@ -37,8 +39,8 @@ pub(crate) const MAP: PageNo = PageNo(0);
 /// Writes a block and covers it.
 pub(crate) fn put_block<D: Disk>(disk: &mut D, at: BlockNo, content: &Block) -> Result<(), DevFault>
     requires at { at.0 < disk_need SHAPE }
-    requires quiet { IsQuiet SHAPE NODE.0 D.told (D.state disk.old) }
-    ensures quiet { OnOk result (IsQuiet SHAPE NODE.0 D.told (D.state disk.new)) }
+    requires quiet { IsReadyDevice SHAPE NODE.0 D.told (D.state disk.old) }
+    ensures quiet { OnOk result (IsReadyDevice SHAPE NODE.0 D.told (D.state disk.new)) }
 {
     write_block(disk, NODE, at, content)?;
     cover(disk, NODE)
@@ -49,7 +51,7 @@ pub(crate) fn format<D: Disk>(disk: &mut D, pages: u32) -> Result<(), DevFault>
     requires pages { pages ≤ 252 }
     requires size { disk_need SHAPE ≤ (D.state disk.old).size }
     requires quiet { IsTrue D.told → (k : ℕ) → ((D.state disk.old).block k).writer ≡ None }
-    ensures quiet { OnOk result (IsQuiet SHAPE NODE.0 D.told (D.state disk.new)) }
+    ensures quiet { OnOk result (IsReadyDevice SHAPE NODE.0 D.told (D.state disk.new)) }
 {
     disk.start(NODE);
     let mut block = [0; 4096];
@@ -75,7 +77,7 @@ pub(crate) fn new_disk(alloc: Global) -> Result<WatchedDisk<MemDisk>, AllocError
 
 /// A node with an empty cache of 16 frames over a device that was formatted.
 pub(crate) fn open_on<D: Disk + Drop>(alloc: Global, disk: D) -> Result<Bench<D>, Fail>
-    requires { IsQuiet SHAPE NODE.0 D.told (D.state disk) }
+    requires { IsReadyDevice SHAPE NODE.0 D.told (D.state disk) }
     ensures { IfOk result (λ b. IsReady SHAPE D.told (D.state b.disk) b.pool b.owners b.cache) }
 {
     let pool = Pool::new(alloc, 16)?;

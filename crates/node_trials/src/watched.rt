@@ -1,3 +1,5 @@
+//! A device that notes what it is told to write, and whose port one call can stop.
+
 ghost use Rattle.std.specs.Prelude.{◌≡◌, ◌≢◌, ◌+◌, ◌-◌, ◌≤◌, ◌^◌, ℕ, length, min, replicate, slice_index};
 ghost use Rattle.sd_base.specs.Disk.{IsPort};
 ghost use Rattle.node_trials.specs.Watched.{watched_state};

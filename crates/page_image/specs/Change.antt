@@ -37,10 +37,11 @@ abbrev pub with_cut : ℕ → Bool → ℕ → PageView → PageView
 with_cut slot true len v = with_put slot (Some (take len (value_in v slot))) v
 with_cut slot false len v = with_put slot None v
 
--- the page after a change
+-- The page after a change. Each change gives the next identifier, so that a page's identifier counts its changes; one of a map
+-- entry does nothing else.
 abbrev pub applied : PageOp → PageView → PageView
 applied (Put slot after) v = with_put slot after v
 applied (Append slot bytes) v = with_append slot bytes v
 applied (Cut slot present len) v = with_cut slot present len v
-applied (MapUse place group) v = v
-applied (MapFree place ident) v = v
+applied (MapUse place group) v = record v { ident = v.ident + 1 }
+applied (MapFree place ident) v = record v { ident = v.ident + 1 }

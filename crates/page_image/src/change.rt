@@ -1,3 +1,5 @@
+//! A data page is changed: one slot of it, and its identifier.
+
 ghost use Rattle.std.specs.Prelude.{◌≡◌, ◌+◌, ◌^◌, ◌≤◌, ◌<◌};
 ghost use Rattle.page_image.specs.declared.page_view.PageView.{PageView};
 ghost use Rattle.page_image.specs.Image.{IsTextOf};

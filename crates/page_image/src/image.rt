@@ -1,3 +1,5 @@
+//! The block of a whole data page: written, read, and as it is when the page is born.
+
 ghost use Rattle.std.specs.Prelude.{◌≡◌, ◌+◌, ◌^◌, ◌≤◌, IfSome, None, slice_index_or};
 ghost use Rattle.page_image.specs.declared.page_view.PageView.{PageView};
 ghost use Rattle.page_image.specs.Image.{IsImage, IsTextOf, HasFields, image_text, birth_image};

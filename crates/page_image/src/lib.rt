@@ -13,6 +13,3 @@ mod slots;
 pub use change::apply;
 pub use image::{identifier, parse, slot, write_birth};
 pub use page_view::PageView;
-
-#[cfg(test)]
-mod tests;

@@ -1,3 +1,5 @@
+//! The content of a data page: its number, its identifier and its slots.
+
 use sd_base::{PageNo, Value};
 
 /// What a data page holds.

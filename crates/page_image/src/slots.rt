@@ -1,3 +1,5 @@
+//! Where each slot stands in the block of a data page, and how it is written and read.
+
 ghost use Rattle.std.specs.Prelude.{◌≡◌, ◌+◌, ◌*◌, ◌≤◌, ◌<◌, ℕ, None, length, drop, slice_index_or};
 ghost use Rattle.sd_base.specs.Text.{put};
 ghost use Rattle.page_image.specs.Slot.{slot_text, slot_of_text, FitsSlot};

@@ -10,6 +10,3 @@ mod ticket;
 
 pub use owners::{Own, Owners};
 pub use ticket::Ticket;
-
-#[cfg(test)]
-mod tests;

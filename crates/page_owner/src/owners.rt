@@ -1,3 +1,5 @@
+//! The table of owners: a page is granted to a node, parked by it, and given back.
+
 ghost use Rattle.std.specs.Prelude.{◌≡◌, ◌≢◌, ◌<◌, ℕ, IfOk, length, map, replicate, slice_set};
 ghost use Rattle.sd_base.specs.declared.device.NodeId.{NodeId};
 ghost use Rattle.page_owner.specs.declared.owners.Own.TheVariants.{Nobody, Parked, Out};

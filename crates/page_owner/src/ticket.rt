@@ -1,3 +1,5 @@
+//! The ticket of a page: the right of one node to change it.
+
 ghost use Rattle.std.specs.Prelude.{◌≡◌};
 
 use sd_base::{NodeId, PageNo};

@@ -1,3 +1,5 @@
+//! A node's log is found on the disk: its start in the anchor, and its end in the ring.
+
 ghost use Rattle.std.specs.Prelude.{◌≡◌, ◌+◌, ◌*◌, ◌≤◌, ◌<◌, ◌^◌, ℕ, false, true, List, Some, length, IsTrue, OnOk, IfOk, IfErr};
 ghost use Rattle.sd_base.specs.Disk.{IsPort};
 ghost use Rattle.sd_base.specs.Calls.{Keeps, Narrows, NoNewWriter, KeepsForeign};

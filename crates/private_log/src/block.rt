@@ -1,3 +1,5 @@
+//! The text of a log block: a header, and up to six records.
+
 ghost use Rattle.std.specs.Prelude.{◌≡◌, ◌≢◌, ◌+◌, ◌*◌, ◌<◌, ◌≤◌, ℕ, List, [], ◌∷◌, ◌++◌, length, slice_index_or, false, None, IfSome, IsTrue, Some};
 ghost use Rattle.sd_base.specs.Text.{bytes_at};
 ghost use Rattle.private_log.specs.LogBlock.{log_header, log_block, AreRecords, FitsBlock};

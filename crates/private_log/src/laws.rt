@@ -1,3 +1,5 @@
+//! What stops, other ports and other calls leave of a log, stated as laws.
+
 ghost use Rattle.std.specs.Prelude.{◌≡◌, ◌≢◌, ◌≤◌, ◌<◌, ℕ, List, Option};
 ghost use Rattle.sd_base.specs.Disk.{BlockState, IsOutcome, IsLawful};
 ghost use Rattle.sd_base.specs.Calls.{KeepsForeignBut};

@@ -1,3 +1,5 @@
+//! The log of a node: which records it has, which of them are stable, and the space left.
+
 ghost use Rattle.std.specs.Prelude.{◌≡◌, ◌+◌, ◌<◌};
 ghost use Rattle.private_log.specs.Log.{IsLog, used, space};
 

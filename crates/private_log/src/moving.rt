@@ -1,3 +1,5 @@
+//! The start of the log moves on, so that the blocks before it can be used again.
+
 ghost use Rattle.std.specs.Prelude.{◌≡◌, ◌⊎◌, ◌-◌, ◌*◌, ◌≤◌, ℕ, false, true, List, Option, drop, IsTrue, OnOk, OnErr, IfErr};
 ghost use Rattle.sd_base.specs.Disk.{IsPort, IsOutcome};
 ghost use Rattle.sd_base.specs.Calls.{Keeps, NarrowsBut, NoNewWriterBut, KeepsForeignBut};

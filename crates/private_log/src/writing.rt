@@ -1,3 +1,5 @@
+//! Records are appended to the log and made stable.
+
 ghost use Rattle.std.specs.Prelude.{◌≡◌, ◌≢◌, ◌+◌, ◌-◌, ◌*◌, ◌/◌, ◌%◌, ◌≤◌, ◌<◌, ℕ, true, false, List, [], ◌∷◌, ◌++◌, length, drop, max, Option, IsTrue, IsOk, OnOk, OnErr, IfOk, IfErr};
 ghost use Rattle.sd_base.specs.Disk.{BlockState, IsPort, IsOutcome};
 ghost use Rattle.sd_base.specs.Calls.{Keeps, Narrows, NarrowsBut, NoNewWriter, NoNewWriterBut, KeepsForeign, KeepsForeignBut};

@@ -1,13 +1,12 @@
 -- The table of locks: what its entries hold after each change.
-use Rattle.std.proofs.Common.{◌≡◌, ◌==◌, ◌&&◌, ◌≤◌, ◌<◌, ◌++◌, ℕ, get_or, set, IsTrue, Bool, true, false, cond, List, [], ◌∷◌, Option, Some, None, filter, find, position, nat_lt, zero, suc, map, length, is_none, refl, sym, ◌∙◌, ap, subst, arith}
+use Rattle.std.proofs.Common.{◌≡◌, ◌==◌, ◌&&◌, ◌≤◌, ◌<◌, ◌++◌, ℕ, get_or, set, IsTrue, Bool, true, false, cond, List, [], ◌∷◌, Option, Some, None, filter, find, position, zero, suc, map, length, is_none, refl, sym, ◌∙◌, ap, subst, arith}
 use Rattle.std.proofs.lemmas.List.{length-map, length-set, length-append, get_or-map, map-set, map-append}
 use Rattle.std.proofs.lemmas.Bool.Decides.{nat_tests}
 use Rattle.std.specs.FinMap as finite
-use Rattle.std.specs.List.{position_or_len, slice_get}
-use Rattle.std.proofs.lemmas.List.Folds.{find_at}
 use Rattle.std.proofs.lemmas.List.Quantifiers.{position-Some}
 use Rattle.std.specs.Option.{option_map}
 use Rattle.std.specs.Ordering.{eq_by_cmp}
+use Rattle.sd_base.proofs.Positions.{not_placed}
 use Rattle.record_locks.specs.declared.entry.Entry.{Entry}
 use Rattle.record_locks.specs.declared.mode.Mode.{Mode}
 use Rattle.record_locks.specs.declared.mode.Mode.TheVariants.{Read, Write}
@@ -151,20 +150,6 @@ room_to_take key t mode es table none may =
     by (Some u) full e may = cc
     by None true e may = cc
     by None false e may = let short = table.bounded in grind (arith, nat_tests)
-
-past_end : {X : Type 0} (xs : List X) (n : ℕ) → length xs ≤ n → slice_get xs n ≡ None
-past_end [] n le = refl
-past_end (x ∷ xs) zero le = absurd (omega arith)
-past_end (x ∷ xs) (suc n) le = past_end xs n (omega arith)
-
--- where no element has a place, none is found
-not_placed : {X : Type 0} (test : X → Bool) (xs : List X) → position test xs ≡ None → find test xs ≡ None
-not_placed test xs none =
-    find_at test xs ∙ past_end xs (position_or_len test xs) (by (nat_lt (position_or_len test xs) (length xs)) refl none)
-  where
-    by : (b : Bool) → nat_lt (position_or_len test xs) (length xs) ≡ b → cond b (Some (position_or_len test xs)) None ≡ None → length xs ≤ position_or_len test xs
-    by true e never = cc
-    by false e none = grind (arith, nat_tests)
 
 found_at : {X : Type 0} (test : X → Bool) (xs : List X) (i : ℕ) (d : X) → i < length xs → test (get_or xs i d) ≡ true → ¬ (find test xs ≡ None)
 found_at test [] i d lt passes = absurd (omega arith)

@@ -1,5 +1,5 @@
 -- The locks that transactions have: a finite map from locks to modes.
-use Rattle.std.specs.Prelude.{◌≡◌, ◌==◌, ◌&&◌, ◌||◌, ◌/◌, Bool, true, false, not, List, Option, Some, None, filter, fold, map, IsSome, if◌then◌else◌, refl}
+use Rattle.std.specs.Prelude.{◌≡◌, ◌==◌, ◌&&◌, ◌||◌, Bool, true, false, not, List, Option, Some, None, filter, fold, map, IsSome, if◌then◌else◌, refl}
 use Rattle.std.specs.Coded.{Coded, code_by, coded_bool}
 use Rattle.std.specs.Ordering.{is_gt}
 use Rattle.std.specs.FinMap as finite
@@ -7,6 +7,7 @@ use Rattle.sd_base.specs.declared.device.NodeId.{NodeId}
 use Rattle.sd_base.specs.declared.names.GroupNo.{GroupNo}
 use Rattle.sd_base.specs.declared.names.Key.{Key}
 use Rattle.sd_base.specs.declared.names.TxnId.{TxnId}
+use Rattle.sd_base.specs.Places.{group_of}
 use Rattle.record_locks.specs.declared.mode.Mode.{Mode}
 use Rattle.record_locks.specs.declared.mode.Mode.TheVariants.{Read, Write}
 use Rattle.record_locks.specs.Order.{Lock, lock, lock_cmp, lock_code, txn_cmp, same_txn}
@@ -62,9 +63,9 @@ excludes Write mode = true
 abbrev pub conflicts : Key → TxnId → Mode → Lock → Mode → Bool
 conflicts key t mode l had = l.key.0 == key.0 && not (same_txn l.txn t) && excludes had mode
 
--- a lock on a key of this group, which are sixteen in a row
+-- a lock on a key of this group
 abbrev pub is_in_group : GroupNo → Lock → Mode → Bool
-is_in_group g l mode = l.key.0 / 16 == g.0
+is_in_group g l mode = (group_of l.key.0).0 == g.0
 
 -- the lesser of two transactions, where there may be but one
 abbrev pub lesser : Option TxnId → TxnId → Option TxnId

@@ -1,10 +1,13 @@
+//! One lock of the table, and how locks are searched for in a list.
+
 ghost use Rattle.std.specs.Prelude.{◌≡◌, find, position, filter, map};
 ghost use Rattle.std.specs.Option.{option_map};
 ghost use Rattle.record_locks.specs.Held.{excludes, conflicts, is_in_group, lesser, least_of};
+ghost use Rattle.record_locks.specs.GivenUp.{stays};
 ghost use Rattle.record_locks.specs.Table.{is_of, lock_of};
 
 use crate::mode::Mode;
-use sd_base::{GroupNo, Key, TxnId};
+use sd_base::{GroupNo, Key, NodeId, TxnId};
 
 /// A lock of the table: the transaction has the key in this mode.
 #[derive(Clone, Copy)]
@@ -12,6 +15,28 @@ pub struct Entry {
     pub key: Key,
     pub txn: TxnId,
     pub mode: Mode,
+}
+
+/// Which locks are given up.
+#[derive(Clone, Copy)]
+pub enum GivenUp {
+    /// Those of a transaction.
+    OfTxn(TxnId),
+    /// Those of a node's transactions.
+    OfNode(NodeId),
+    /// Those of a node's transactions that are to read.
+    ReadsOfNode(NodeId),
+}
+
+/// Whether the lock of an entry isn't given up with these.
+pub fn stays(e: &Entry, which: GivenUp) -> bool
+    ensures { result ≡ stays which (lock_of e.now).0 e.now.mode }
+{
+    match which {
+        GivenUp::OfTxn(t) => e.txn != t,
+        GivenUp::OfNode(n) => e.txn.node != n,
+        GivenUp::ReadsOfNode(n) => e.txn.node != n || e.mode == Mode::Write,
+    }
 }
 
 /// Whether an entry is of the transaction's lock on the key.
@@ -66,7 +91,7 @@ pub fn least_in_group(entries: &[Entry], g: GroupNo) -> Option<TxnId>
 {
     entries
         .iter()
-        .filter(|e| e.key.0 / 16 == g.0)
+        .filter(|e| e.key.group() == g)
         .map(|e| e.txn)
         .fold(None, lesser)
 }

@@ -1,3 +1,5 @@
+//! What becomes of all locks where some are taken or dropped, stated as laws.
+
 ghost use Rattle.std.specs.Prelude.{◌≡◌, ◌≢◌, Bool, Some, IsTrue};
 ghost use Rattle.std.specs.FinMap.{get, empty};
 ghost use Rattle.sd_base.specs.declared.names.Key.{Key};

@@ -14,6 +14,3 @@ mod table;
 pub use laws::{law_of_dropped_locks, law_of_the_least};
 pub use mode::{LockAnswer, Mode};
 pub use table::Locks;
-
-#[cfg(test)]
-mod tests;

@@ -1,3 +1,5 @@
+//! The two modes of a lock, and the answers to a transaction that asks for one.
+
 ghost use Rattle.std.specs.Prelude.{◌≡◌};
 ghost use Rattle.record_locks.specs.Held.{covers};
 

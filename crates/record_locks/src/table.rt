@@ -1,9 +1,14 @@
+//! The table of all locks: who may have one, who takes it, and who gives it up.
+
 ghost use Rattle.std.specs.Prelude.{◌≡◌, ◌≤◌, true, IfOk, IsTrue};
 ghost use Rattle.std.specs.FinMap.{empty, len};
-ghost use Rattle.record_locks.specs.Held.{is_in_group, least_where, taken, without_txn, without_node, without_reads_of};
+ghost use Rattle.record_locks.specs.Held.{is_in_group, least_where, locks_where, taken, without_txn, without_node, without_reads_of};
 ghost use Rattle.record_locks.specs.Answer.{lock_answer, may_take};
+ghost use Rattle.record_locks.specs.GivenUp.{stays};
 
-use crate::entry::{Entry, least, least_conflict, least_in_group, mode_of, place_of};
+use crate::entry::{
+    Entry, GivenUp, least, least_conflict, least_in_group, mode_of, place_of, stays,
+};
 use crate::mode::{LockAnswer, Mode, covers};
 use sd_base::{GroupNo, Key, NodeId, TxnId};
 use std::alloc::{AllocError, Global};
@@ -75,11 +80,18 @@ impl Locks {
         }
     }
 
+    /// These locks are given up.
+    fn give_up(&mut self, which: GivenUp)
+        ensures { self.new ≡ locks_where (stays which) self.old }
+    {
+        self.entries.retain(|e| stays(e, which));
+    }
+
     /// The transaction gives up its locks.
     pub fn release_txn(&mut self, t: TxnId)
         ensures { self.new ≡ without_txn t self.old }
     {
-        self.entries.retain(|e| e.txn != t);
+        self.give_up(GivenUp::OfTxn(t));
     }
 
     /// The transactions of a node that has stopped give up their locks to read. Those to write stay:
@@ -87,15 +99,14 @@ impl Locks {
     pub fn retain_node(&mut self, n: NodeId)
         ensures { self.new ≡ without_reads_of n self.old }
     {
-        self.entries
-            .retain(|e| e.txn.node != n || e.mode == Mode::Write);
+        self.give_up(GivenUp::ReadsOfNode(n));
     }
 
     /// The transactions of a node give up their locks.
     pub fn release_node(&mut self, n: NodeId)
         ensures { self.new ≡ without_node n self.old }
     {
-        self.entries.retain(|e| e.txn.node != n);
+        self.give_up(GivenUp::OfNode(n));
     }
 
     /// All locks are given up.

@@ -1,11 +1,12 @@
 -- The machine after the newest write of a transaction is taken back.
-use Rattle.std.specs.Prelude.{◌≡◌, ◌≢◌, ◌==◌, ◌⊎◌, ◌+◌, ◌%◌, ◌++◌, ◌∷◌, [], ℕ, zero, suc, Bool, true, false, List, Option, Some, None, All, IfSome, filter, is_some, length, option_and_then, refl, replicate}
+use Rattle.std.specs.Prelude.{◌≡◌, ◌≢◌, ◌==◌, ◌⊎◌, ◌+◌, ◌++◌, ◌∷◌, [], ℕ, zero, suc, Bool, true, false, List, Option, Some, None, All, IfSome, filter, is_some, length, option_and_then, refl, replicate}
 use Rattle.std.specs.List.{list_any}
 use Rattle.std.proofs.Common.{arith, inl, inr, ap, subst, sym, ◌∙◌}
 use Rattle.std.proofs.lemmas.Bool.{eqb-true}
 use Rattle.std.proofs.lemmas.Bool.Decides.{nat_tests}
 use Rattle.std.proofs.lemmas.List.{length-append}
 use Rattle.sd_base.specs.declared.names.TxnId.{TxnId}
+use Rattle.sd_base.specs.Places.{slot_of_key}
 use Rattle.page_image.specs.declared.page_view.PageView.{PageView}
 use Rattle.log_record.specs.declared.record.LogRecord.{LogRecord}
 use Rattle.compensation.specs.Finding.{record_at}
@@ -84,7 +85,7 @@ present_own m t d w is write locked = λ u alone. by u alone (same_or_not t u)
 
 -- ---- what the store means after it
 
-pub pages_back : (p : Plain) (m : Machine) (t : TxnId) (d : Deed) (w : Write) (rec : LogRecord) (v : PageView) → newest_of m t ≡ Some d → d.write ≡ Some w → home m w.key ≡ Some w.page → IsChangedAt (w.key % 16) (seen (taken_back t (Some w) m) t w.key) (p.pages w.page) v
+pub pages_back : (p : Plain) (m : Machine) (t : TxnId) (d : Deed) (w : Write) (rec : LogRecord) (v : PageView) → newest_of m t ≡ Some d → d.write ≡ Some w → home m w.key ≡ Some w.page → IsChangedAt (slot_of_key w.key) (seen (taken_back t (Some w) m) t w.key) (p.pages w.page) v
     → AreLocked m → ArePages p m → ArePages (logged t.node.0 rec (with_page w.page v p)) (taken_back t (Some w) m)
 pages_back p m t d w rec v is write here changed locked was =
     pages_written w.key w.page t.node.0 (seen (taken_back t (Some w) m) t w.key) (taken_back t (Some w) m).pending (taken_back t (Some w) m).tail p m rec v here changed

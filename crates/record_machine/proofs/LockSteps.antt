@@ -1,10 +1,11 @@
 -- The locks after a step, and what they keep from changing.
-use Rattle.std.specs.Prelude.{◌≡◌, ◌≢◌, ◌==◌, ◌⊎◌, ◌%◌, ℕ, Bool, true, false, cond, not, Option, Some, None, IsSome, IsTrue, refl}
+use Rattle.std.specs.Prelude.{◌≡◌, ◌≢◌, ◌==◌, ◌⊎◌, ℕ, Bool, true, false, cond, not, Option, Some, None, IsSome, IsTrue, refl}
 use Rattle.std.specs.FinMap as finite
 use Rattle.std.proofs.Common.{inl, inr, ap, subst, sym, ◌∙◌}
 use Rattle.std.proofs.lemmas.Bool.{eqb-true}
 use Rattle.sd_base.specs.declared.names.Key.{Key}
 use Rattle.sd_base.specs.declared.names.TxnId.{TxnId}
+use Rattle.sd_base.specs.Places.{slot_of_key}
 use Rattle.compensation.specs.Inverse.{content}
 use Rattle.record_locks.specs.declared.mode.Mode.{Mode}
 use Rattle.record_locks.specs.declared.mode.Mode.TheVariants as locks
@@ -58,7 +59,7 @@ either_mode locks.Read = refl
 either_mode locks.Write = refl
 
 -- a transaction that has a lock on a key sees its present record
-pub seen_locked : (p : Plain) (m : Machine) (key : Key) (x : ℕ) (t : TxnId) (mode : Mode) → AreLocked m → ArePages p m → home m key.0 ≡ Some x → mode_of m.locks key t ≡ Some mode → content (p.pages x) (key.0 % 16) ≡ seen m t key.0
+pub seen_locked : (p : Plain) (m : Machine) (key : Key) (x : ℕ) (t : TxnId) (mode : Mode) → AreLocked m → ArePages p m → home m key.0 ≡ Some x → mode_of m.locks key t ≡ Some mode → content (p.pages x) (slot_of_key key.0) ≡ seen m t key.0
 seen_locked p m key x t mode locked pages is had = pages.present key.0 x is t (λ u theirs. sym (locked.apart key t u mode locks.Write had (locked.written u key theirs) (either_mode mode)))
 
 -- where nobody has a lock, nothing is written that isn't committed
@@ -72,7 +73,7 @@ unwritten m u key locked none = by (has_written m u key.0) refl
         absurd (free (lock key u) (subst (λ o. IsSome (passing (λ l mode. true) (lock key u) o)) (sym (locked.written u key is)) refl))
 
 -- and the slot of a record has the committed one
-pub committed_there : (p : Plain) (m : Machine) (key : Key) (x : ℕ) → AreLocked m → ArePages p m → least_where (λ l mode. true) m.locks ≡ None → home m key.0 ≡ Some x → content (p.pages x) (key.0 % 16) ≡ m.records key.0
+pub committed_there : (p : Plain) (m : Machine) (key : Key) (x : ℕ) → AreLocked m → ArePages p m → least_where (λ l mode. true) m.locks ≡ None → home m key.0 ≡ Some x → content (p.pages x) (slot_of_key key.0) ≡ m.records key.0
 committed_there p m key x locked pages none is =
     let t : TxnId = record { node = record { 0 = 1 }; seat = 0 } in
     pages.present key.0 x is t (λ u theirs. let never : true ≡ false = sym theirs ∙ unwritten m u key locked none in cc)

@@ -2,7 +2,7 @@
 use Rattle.std.specs.Prelude.{◌≡◌, ◌≢◌, ◌==◌, ◌&&◌, ◌||◌, ◌⊎◌, ◌+◌, ◌++◌, ◌∷◌, [], ℕ, Bool, true, false, cond, not, List, Option, Some, None, All, count_by, filter, is_some, length, refl}
 use Rattle.std.specs.List.{list_any}
 use Rattle.std.proofs.Common.{arith, inl, inr, ap, append-nil, subst, sym, ◌∙◌}
-use Rattle.std.proofs.lemmas.Bool.{cases_eq, eq-eqb, eqb-true}
+use Rattle.std.proofs.lemmas.Bool.{and_parts, cases_eq, eq-eqb, eqb-true, not-true, or_parts}
 use Rattle.std.proofs.lemmas.List.{length-append}
 use Rattle.std.proofs.lemmas.List.Elements.{All-cons, All-head, All-tail, filter-append}
 use Rattle.std.proofs.lemmas.List.Folds.{list_any-append}
@@ -22,20 +22,6 @@ pub record IsNewest (seat : ℕ) (ds : List Deed) (d : Deed) : Type 0 where
   pub last : list_any (is_write_in seat) behind ≡ false
 
 -- ---- tests
-
-both : (a b : Bool) → (a && b) ≡ true → (a ≡ true) × (b ≡ true)
-both true true is = (refl, refl)
-both true false is = cc
-both false b is = cc
-
-neither : (a b : Bool) → (a || b) ≡ false → (a ≡ false) × (b ≡ false)
-neither true b not = cc
-neither false true not = cc
-neither false false not = (refl, refl)
-
-not_true : (b : Bool) → not b ≡ true → b ≡ false
-not_true true is = cc
-not_true false is = refl
 
 alone : (a b : Bool) → (a && not b) ≡ false → b ≡ false → (a || b) ≡ false
 alone true true first rest = cc
@@ -60,8 +46,8 @@ newest_is seat (e ∷ es) d is = by (is_newest_in seat e es) refl is (newest_is 
     by : (b : Bool) → is_newest_in seat e es ≡ b → cond b (Some e) (newest_in seat es) ≡ Some d → (newest_in seat es ≡ Some d → IsNewest seat es d) → IsNewest seat (e ∷ es) d
     by true it found ih =
         let same : e ≡ d = cc in
-        let tests = both (is_write_in seat e) (not (list_any (is_write_in seat) es)) it in
-        record { before = []; behind = es; whole = ap (λ o. o ∷ es) same; rest = rw it refl; write = ap (is_write_in seat) (sym same) ∙ tests.0; last = not_true (list_any (is_write_in seat) es) tests.1 }
+        let tests = and_parts (is_write_in seat e) (not (list_any (is_write_in seat) es)) it in
+        record { before = []; behind = es; whole = ap (λ o. o ∷ es) same; rest = rw it refl; write = ap (is_write_in seat) (sym same) ∙ tests.0; last = not-true (list_any (is_write_in seat) es) tests.1 }
     by false it found ih =
         let more = ih found in
         record { before = e ∷ more.before; behind = more.behind; whole = ap (λ os. e ∷ os) more.whole; rest = rw it (ap (λ os. e ∷ os) more.rest); write = more.write; last = more.last }
@@ -76,10 +62,10 @@ none_newest seat (d ∷ ds) none = by (is_newest_in seat d ds) refl none (none_n
     by false it none ih = alone (is_write_in seat d) (list_any (is_write_in seat) ds) it (ih none)
 
 pub own_seat : (seat : ℕ) (d : Deed) → is_write_in seat d ≡ true → d.seat ≡ seat
-own_seat seat d write = eqb-true d.seat seat (both (d.seat == seat) (is_some d.write) write).0
+own_seat seat d write = eqb-true d.seat seat (and_parts (d.seat == seat) (is_some d.write) write).0
 
 pub some_write : (seat : ℕ) (d : Deed) → is_write_in seat d ≡ true → is_some d.write ≡ true
-some_write seat d write = (both (d.seat == seat) (is_some d.write) write).1
+some_write seat d write = (and_parts (d.seat == seat) (is_some d.write) write).1
 
 -- ---- a seat that writes nothing
 
@@ -94,13 +80,13 @@ no_key seat key d not = by (d.seat == seat) refl d.write refl
 pub no_keys : (seat key : ℕ) (ds : List Deed) → list_any (is_write_in seat) ds ≡ false → list_any (writes_key seat key) ds ≡ false
 no_keys seat key [] none = refl
 no_keys seat key (d ∷ ds) none =
-    let parts = neither (is_write_in seat d) (list_any (is_write_in seat) ds) none in
+    let parts = or_parts (is_write_in seat d) (list_any (is_write_in seat) ds) none in
     rw (no_key seat key d parts.0) (no_keys seat key ds parts.1)
 
 pub no_writes : (seat : ℕ) (ds : List Deed) → list_any (is_write_in seat) ds ≡ false → filter (is_write_in seat) ds ≡ []
 no_writes seat [] none = refl
 no_writes seat (d ∷ ds) none =
-    let parts = neither (is_write_in seat d) (list_any (is_write_in seat) ds) none in
+    let parts = or_parts (is_write_in seat d) (list_any (is_write_in seat) ds) none in
     rw parts.0 (no_writes seat ds parts.1)
 
 -- ---- what the seats see without it, and have written

@@ -1,11 +1,12 @@
 -- The machine after a transaction has ended.
-use Rattle.std.specs.Prelude.{◌≡◌, ◌≢◌, ◌==◌, ◌⊎◌, ◌%◌, ◌++◌, ◌∷◌, [], ℕ, Bool, true, false, not, List, Option, Some, All, IfSome, refl}
+use Rattle.std.specs.Prelude.{◌≡◌, ◌≢◌, ◌==◌, ◌⊎◌, ◌++◌, ◌∷◌, [], ℕ, Bool, true, false, not, List, Option, Some, All, IfSome, refl}
 use Rattle.std.specs.List.{list_any}
 use Rattle.std.proofs.Common.{inl, inr, ap, subst, sym, ◌∙◌}
 use Rattle.std.proofs.lemmas.Bool.{cases_eq, eq-eqb, eqb-true}
 use Rattle.std.proofs.lemmas.List.Elements.{All-filter}
 use Rattle.sd_base.specs.declared.names.Key.{Key}
 use Rattle.sd_base.specs.declared.names.TxnId.{TxnId}
+use Rattle.sd_base.specs.Places.{slot_of_key}
 use Rattle.compensation.specs.Inverse.{content}
 use Rattle.log_record.specs.declared.record.LogRecord.{LogRecord}
 use Rattle.record_locks.specs.declared.mode.Mode.TheVariants as locks
@@ -97,7 +98,7 @@ pages_sealed t p m rec logs locked was = record {
   ident = was.ident;
   alive = was.alive;
   unused = was.unused;
-  present = λ key x is. present_sealed t m key (content (p.pages x) (key % 16)) locked (was.present key x is);
+  present = λ key x is. present_sealed t m key (content (p.pages x) (slot_of_key key)) locked (was.present key x is);
   absent = λ key none. seen_nothing t t m key (m.records key) (never_written p m key t logs none) ∙ was.absent key none;
 }
 

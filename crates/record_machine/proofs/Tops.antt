@@ -8,7 +8,7 @@ use Rattle.std.proofs.lemmas.List.{length-append}
 use Rattle.std.proofs.lemmas.List.Filters.{sum_by-filter_both}
 use Rattle.std.proofs.lemmas.List.FromFn.{get_or-range_with_len, length-range_with_len}
 use Rattle.std.proofs.lemmas.List.Sums.{count_by-le-length, sum_by-cons, sum_by-le, sum_by-le-sum_by, sum_by_push}
-use Rattle.sd_base.specs.Shape.{IsShape}
+use Rattle.sd_base.specs.Shape.{IsShape, page_count}
 use Rattle.sd_base.specs.declared.names.GroupNo.{GroupNo}
 use Rattle.sd_base.specs.declared.names.TxnId.{TxnId}
 use Rattle.record_machine.specs.Machine.{Deed, Machine, Write, newest_of, open_writes, owed, put, without_newest, writes_page}
@@ -136,7 +136,7 @@ tops_back t m d w is write up low was = λ x from to. by x from to (cases_eq x w
     others : (x i : ℕ) → i ≢ t.node.0 → f x i ≡ g x i
     others x i apart = ap (count_by (writes_page x)) (put_other t.node.0 (without_newest t.seat (m.pending t.node.0)) m.pending i apart)
 
-    by : (x : ℕ) → m.shape.maps ≤ x → x < 253 * m.shape.maps → (x ≡ w.page) ⊎ (x ≢ w.page) → put w.page (m.ident w.page + 1) m.ident x + open_writes (taken_back t (Some w) m) x ≤ 2 ^ 63 + 2 ^ 40
+    by : (x : ℕ) → m.shape.maps ≤ x → x < page_count m.shape → (x ≡ w.page) ⊎ (x ≢ w.page) → put w.page (m.ident w.page + 1) m.ident x + open_writes (taken_back t (Some w) m) x ≤ 2 ^ 63 + 2 ^ 40
     by x from to (inl same) =
         let its : writes_page x d ≡ true = rw write (eq-eqb w.page x (sym same)) in
         let less : f x t.node.0 + 1 ≡ g x t.node.0 = subst (λ b. f x t.node.0 + cond b 1 0 ≡ g x t.node.0) its (here x) in

@@ -1,9 +1,10 @@
 -- What a command is answered, and what it does.
-use Rattle.std.specs.Prelude.{◌≡◌, ◌≤◌, ◌^◌, ◌-◌, ◌/◌, ◌++◌, ◌∷◌, [], ℕ, Bool, true, false, not, nat_le, nat_lt, List, Option, Some, None, length, option_map, replicate, reverse, take, unwrap_or}
+use Rattle.std.specs.Prelude.{◌≡◌, ◌≤◌, ◌^◌, ◌-◌, ◌/◌, ◌++◌, ◌∷◌, [], ℕ, Bool, true, false, not, nat_le, nat_lt, List, Option, Some, None, length, option_map, replicate, reverse, unwrap_or, if◌then◌else◌}
 use Rattle.std.specs.List.{flat_map}
 use Rattle.sd_base.specs.declared.device.NodeId.{NodeId}
 use Rattle.sd_base.specs.declared.names.Key.{Key}
 use Rattle.sd_base.specs.declared.names.TxnId.{TxnId}
+use Rattle.sd_base.specs.Places.{group_of, map_of_data, map_of_key}
 use Rattle.record_locks.specs.declared.mode.Mode.{Mode}
 use Rattle.record_locks.specs.declared.mode.Mode.TheVariants as locks
 use Rattle.record_locks.specs.declared.mode.LockAnswer.{LockAnswer}
@@ -14,7 +15,7 @@ use Rattle.script_text.specs.declared.command.Command.{Command}
 use Rattle.script_text.specs.declared.command.Command.TheVariants as asks
 use Rattle.script_text.specs.declared.reply.Reply.{Reply}
 use Rattle.script_text.specs.declared.reply.Reply.TheVariants as says
-use Rattle.record_machine.specs.Machine.{Deed, Machine, NodeMode, Write, Idle, Up, Down, Redone, free_place, group_of, home, is_busy, map_of, new_home, owed, room, seen, used, writes_of}
+use Rattle.record_machine.specs.Machine.{Deed, Machine, NodeMode, Write, Idle, Up, Down, Redone, free_place, home, is_busy, new_home, owed, room, seen, used, writes_of}
 use Rattle.record_machine.specs.Parts.{Part, Start, Take, Begin, Use, Lock, Change, Back, Seal, Unlock, dos}
 
 -- ---- refusals
@@ -89,18 +90,20 @@ abbrev pub too_long : Option (List ℕ) → List ℕ → Option Reply
 too_long v bytes = where_so (nat_lt 248 (length (joined v bytes))) (says.TooLong (length (joined v bytes)))
 
 -- The first reason why a record can't be written into its group's page: into the one that it has, or into the one that
--- it gets. What the value is refused for comes before the room of the log.
+-- it gets. The reasons stand in the order in which they are met. A group without a page needs a free place of its map
+-- page. Where there is none, the map page is tested for its limit, and then there is no space. Where there is one, the
+-- page of that place is taken, and only then are tested the map page, the page, the value and the room of the log.
 abbrev pub no_page : Machine → NodeId → ℕ → Option Reply → Option Reply
 no_page m n key no_value = of_group (home m key)
   where
-    -- the new page
+    -- the page of the first free place, if there is one
     of_new : Option ℕ → Option Reply
-    of_new None = Some (says.NoSpace (record { 0 = map_of m key }))
-    of_new (Some x) = first_of (at_limit m x ∷ no_value ∷ no_room m n 3 ∷ [])
+    of_new None = first_of (at_limit m (map_of_key m.shape key) ∷ Some (says.NoSpace (record { 0 = map_of_key m.shape key })) ∷ [])
+    of_new (Some x) = first_of (at_limit m (map_of_key m.shape key) ∷ at_limit m x ∷ no_value ∷ no_room m n 3 ∷ [])
 
     of_group : Option ℕ → Option Reply
     of_group (Some x) = first_of (at_limit m x ∷ no_value ∷ no_room m n 2 ∷ [])
-    of_group None = first_of (at_limit m (map_of m key) ∷ of_new (new_home m key) ∷ [])
+    of_group None = of_new (new_home m key)
 
 -- the first reason why the record of the key, if the transaction sees one, can't be deleted from its group's page
 abbrev pub no_deletion : Machine → TxnId → ℕ → Option Reply
@@ -131,8 +134,8 @@ refusal m (asks.Dump n) = first_of (no_node m n ∷ not_up m n ∷ any_lock m �
 
 -- the node takes the map page of the key's group, and then a page if there is one
 abbrev pub takes_both : Machine → ℕ → ℕ → Option ℕ → List Part
-takes_both m n key None = Take (map_of m key) n ∷ []
-takes_both m n key (Some x) = Take (map_of m key) n ∷ Take x n ∷ []
+takes_both m n key None = Take (map_of_key m.shape key) n ∷ []
+takes_both m n key (Some x) = Take (map_of_key m.shape key) n ∷ Take x n ∷ []
 
 -- the page in which the record of the key is to be written
 abbrev pub target : Machine → ℕ → Option ℕ
@@ -152,7 +155,7 @@ takes_written m n d = of_write d.write
   where
     of_write : Option Write → List Part
     of_write None = []
-    of_write (Some w) = Take ((w.page - m.shape.maps) / 252) n ∷ Take w.page n ∷ []
+    of_write (Some w) = Take (map_of_data m.shape (record { 0 = w.page })).0 n ∷ Take w.page n ∷ []
 
 -- the pages of all that the transaction has written, the newest write first
 abbrev pub takes_back : Machine → TxnId → List Part
@@ -179,7 +182,7 @@ uses m n key = for_group (home m key)
   where
     for_place : Option ℕ → List Part
     for_place None = []
-    for_place (Some place) = Use n (map_of m key) place (group_of key) ∷ []
+    for_place (Some place) = Use n (map_of_key m.shape key) place (group_of key) ∷ []
 
     for_group : Option ℕ → List Part
     for_group (Some x) = []
@@ -254,10 +257,18 @@ MayAnswer m c r = r ≡ says.Fine
 
 -- ---- a step
 
--- a refused command may have taken some of its pages
-pub record Stayed (m : Machine) (pages : List Part) (S : Machine → Type 0) : Type 0 where
-  pub count : ℕ
-  pub after : S (dos (take count pages) m)
+-- the refusals that a command on a record meets only once it has taken its pages: for what is in them, for the value, and
+-- for the room of the log, which is tested last
+abbrev pub needs_pages : Reply → Bool
+needs_pages (says.Limit x) = true
+needs_pages (says.NoSpace x) = true
+needs_pages (says.TooLong len) = true
+needs_pages (says.LogFull need room) = true
+needs_pages why = false
+
+-- a command that is refused so has taken all of its pages, and one that is refused for anything else none
+abbrev pub Stayed : Machine → Command → Reply → (Machine → Type 0) → Type 0
+Stayed m c why S = S (dos (if needs_pages why then takes m c else []) m)
 
 -- From m the machine may answer a command so, and go on to a state of S.
 abbrev pub Step : Machine → Command → Reply → (Machine → Type 0) → Type 0
@@ -265,4 +276,4 @@ Step m c r S = by (refusal m c)
   where
     by : Option Reply → Type 0
     by None = MayAnswer m c r × S (dos (parts m c) m)
-    by (Some why) = (r ≡ why) × Stayed m (takes m c) S
+    by (Some why) = (r ≡ why) × Stayed m c why S

@@ -1,10 +1,11 @@
 -- The record machine: what a store means, as plain data.
-use Rattle.std.specs.Prelude.{◌==◌, ◌+◌, ◌-◌, ◌*◌, ◌/◌, ◌%◌, ◌^◌, ◌&&◌, ℕ, Bool, false, not, List, [], ◌∷◌, Option, Some, None, is_none, is_some, option_map, filter, fold, length, min, replicate, if◌then◌else◌}
+use Rattle.std.specs.Prelude.{◌==◌, ◌-◌, ◌*◌, ◌^◌, ◌&&◌, ℕ, Bool, false, not, List, [], ◌∷◌, Option, Some, None, is_none, is_some, option_map, filter, fold, length, min, replicate, if◌then◌else◌}
 use Rattle.std.specs.List.{count_by, list_any, position, range_with_len, sum_by}
 use Rattle.std.specs.FinMap as finite
-use Rattle.sd_base.specs.declared.names.GroupNo.{GroupNo}
 use Rattle.sd_base.specs.declared.names.TxnId.{TxnId}
 use Rattle.sd_base.specs.declared.shape.Shape.{Shape}
+use Rattle.sd_base.specs.Places.{group_of, map_of_key, page_of_place}
+use Rattle.sd_base.specs.Shape.{pages_per_map}
 use Rattle.space_map.specs.declared.map_entry.MapEntry.{MapEntry}
 use Rattle.space_map.specs.declared.map_entry.MapEntry.TheVariants.{Free}
 use Rattle.space_map.specs.Entry.{is_free, is_used_by}
@@ -64,7 +65,7 @@ formatted s = record {
   records = λ key. None;
   pending = λ n. [];
   locks = finite.empty;
-  entries = λ x. replicate 252 (Free s.birth);
+  entries = λ x. replicate pages_per_map (Free s.birth);
   ident = λ x. s.birth;
   hold = λ x. None;
   start = λ n. 0;
@@ -73,28 +74,16 @@ formatted s = record {
 
 -- ---- pages and groups
 
--- a group is sixteen keys, which stand in one page
-abbrev pub group_of : ℕ → GroupNo
-group_of key = record { 0 = key / 16 }
-
--- the map page that may have an entry for the group
-abbrev pub map_of : Machine → ℕ → ℕ
-map_of m key = (key / 16) % m.shape.maps
-
--- the data page of a place of a map page
-abbrev pub page_at : Machine → ℕ → ℕ → ℕ
-page_at m map place = m.shape.maps + 252 * map + place
-
 -- the page of the key's group, if it has one
 abbrev pub home : Machine → ℕ → Option ℕ
-home m key = option_map (page_at m (map_of m key)) (position (is_used_by (group_of key)) (m.entries (map_of m key)))
+home m key = option_map (page_of_place m.shape (map_of_key m.shape key)) (position (is_used_by (group_of key)) (m.entries (map_of_key m.shape key)))
 
 -- the place that the group gets if it has none, and the page of that place
 abbrev pub free_place : Machine → ℕ → Option ℕ
-free_place m key = position is_free (m.entries (map_of m key))
+free_place m key = position is_free (m.entries (map_of_key m.shape key))
 
 abbrev pub new_home : Machine → ℕ → Option ℕ
-new_home m key = option_map (page_at m (map_of m key)) (free_place m key)
+new_home m key = option_map (page_of_place m.shape (map_of_key m.shape key)) (free_place m key)
 
 -- ---- open transactions
 

@@ -1,11 +1,12 @@
 -- What the logs and the pages of a store mean to the machine.
-use Rattle.std.specs.Prelude.{◌≡◌, ◌≢◌, ◌==◌, ◌&&◌, ◌+◌, ◌*◌, ◌%◌, ◌^◌, ◌≤◌, ◌<◌, ◌++◌, ⊤, ℕ, Bool, true, false, List, [], ◌∷◌, Option, Some, None, All, IfSome, length, map, replicate, unwrap_or, slice_index_or, slice_set}
+use Rattle.std.specs.Prelude.{◌≡◌, ◌≢◌, ◌==◌, ◌&&◌, ◌+◌, ◌*◌, ◌^◌, ◌≤◌, ◌<◌, ◌++◌, ⊤, ℕ, Bool, true, false, List, [], ◌∷◌, Option, Some, None, All, IfSome, length, map, replicate, unwrap_or, slice_index_or, slice_set}
 use Rattle.std.specs.List.{list_any}
-use Rattle.sd_base.specs.Shape.{IsShape}
+use Rattle.sd_base.specs.Shape.{IsShape, page_count, pages_per_map}
 use Rattle.sd_base.specs.declared.names.GroupNo.{GroupNo}
 use Rattle.sd_base.specs.declared.names.Key.{Key}
 use Rattle.sd_base.specs.declared.names.TxnId.{TxnId}
 use Rattle.sd_base.specs.declared.shape.Shape.{Shape}
+use Rattle.sd_base.specs.Places.{page_of_place, slot_of_key}
 use Rattle.page_image.specs.declared.page_view.PageView.{PageView}
 use Rattle.space_map.specs.declared.map_entry.MapEntry.{MapEntry}
 use Rattle.space_map.specs.declared.map_entry.MapEntry.TheVariants.{Free, Used}
@@ -17,7 +18,7 @@ use Rattle.compensation.specs.Inverse.{IsMarked, content}
 use Rattle.compensation.specs.Finding.{record_at}
 use Rattle.record_locks.specs.declared.mode.Mode.TheVariants as locks
 use Rattle.record_locks.specs.Held.{IsCompatible, mode_of}
-use Rattle.record_machine.specs.Machine.{Deed, Machine, Write, home, open_writes, page_at, put, seen, written}
+use Rattle.record_machine.specs.Machine.{Deed, Machine, Write, home, open_writes, put, seen, written}
 
 -- The logs and pages of a store as they are at present, with all that is in memory alone: the records that each node has
 -- logged since the start of its log, each map page, and each data page in its present life.
@@ -33,8 +34,8 @@ first_record m n = 6 * m.start n
 -- the log record tells the write: it changes the slot of the key in that page from this value
 abbrev pub Tells : LogRecord → Write → Option (List ℕ) → Type 0
 Tells Begin w v = ⊥
-Tells (Set txn prev page bsi slot before after) w v = (page.0 ≡ w.page) × (slot ≡ w.key % 16) × (before ≡ v) × (after ≡ w.value)
-Tells (Append txn prev page bsi slot present len bytes) w v = (page.0 ≡ w.page) × (slot ≡ w.key % 16) × IsMarked present len v × (w.value ≡ Some (unwrap_or v [] ++ bytes))
+Tells (Set txn prev page bsi slot before after) w v = (page.0 ≡ w.page) × (slot ≡ slot_of_key w.key) × (before ≡ v) × (after ≡ w.value)
+Tells (Append txn prev page bsi slot present len bytes) w v = (page.0 ≡ w.page) × (slot ≡ slot_of_key w.key) × IsMarked present len v × (w.value ≡ Some (unwrap_or v [] ++ bytes))
 Tells (Commit txn prev) w v = ⊥
 Tells (Abort txn prev) w v = ⊥
 Tells (Restore txn prev next page bsi slot after) w v = ⊥
@@ -81,19 +82,19 @@ pub record AreLocked (m : Machine) : Type 0 where
 -- the pages of the store mean what the machine says
 pub record ArePages (p : Plain) (m : Machine) : Type 0 where
   pub shape : IsShape m.shape
-  pub count : (x : ℕ) → x < m.shape.maps → length (m.entries x) ≡ 252
+  pub count : (x : ℕ) → x < m.shape.maps → length (m.entries x) ≡ pages_per_map
   pub map_number : (x : ℕ) → x < m.shape.maps → (p.maps x).page.0 ≡ x
-  pub number : (x : ℕ) → m.shape.maps ≤ x → x < 253 * m.shape.maps → (p.pages x).page.0 ≡ x
+  pub number : (x : ℕ) → m.shape.maps ≤ x → x < page_count m.shape → (p.pages x).page.0 ≡ x
   pub entries : (x : ℕ) → x < m.shape.maps → (p.maps x).entries ≡ m.entries x
   pub map_ident : (x : ℕ) → x < m.shape.maps → (p.maps x).ident ≡ m.ident x
-  pub ident : (x : ℕ) → m.shape.maps ≤ x → x < 253 * m.shape.maps → (p.pages x).ident ≡ m.ident x
+  pub ident : (x : ℕ) → m.shape.maps ≤ x → x < page_count m.shape → (p.pages x).ident ≡ m.ident x
   -- each data page is of the life that its entry has begun
-  pub alive : (map place : ℕ) → map < m.shape.maps → place < 252 → ident_of (slice_index_or (m.entries map) place (Free 0)) ≤ (p.pages (page_at m map place)).ident
+  pub alive : (map place : ℕ) → map < m.shape.maps → place < pages_per_map → ident_of (slice_index_or (m.entries map) place (Free 0)) ≤ (p.pages (page_of_place m.shape map place)).ident
   -- and one that no group uses is blank, as its life begins
-  pub unused : (map place ident : ℕ) → map < m.shape.maps → place < 252 → slice_index_or (m.entries map) place (Free 0) ≡ Free ident
-      → ((p.pages (page_at m map place)).ident ≡ ident) × ((p.pages (page_at m map place)).slots ≡ replicate 16 None)
+  pub unused : (map place ident : ℕ) → map < m.shape.maps → place < pages_per_map → slice_index_or (m.entries map) place (Free 0) ≡ Free ident
+      → ((p.pages (page_of_place m.shape map place)).ident ≡ ident) × ((p.pages (page_of_place m.shape map place)).slots ≡ replicate 16 None)
   -- the slot of a key in its group's page has its present record
-  pub present : (key x : ℕ) → home m key ≡ Some x → IsPresent m key (content (p.pages x) (key % 16))
+  pub present : (key x : ℕ) → home m key ≡ Some x → IsPresent m key (content (p.pages x) (slot_of_key key))
   -- and a key whose group has no page has none
   pub absent : (key : ℕ) → home m key ≡ None → m.records key ≡ None
 
@@ -106,7 +107,7 @@ pub record AreLogs (p : Plain) (m : Machine) : Type 0 where
 
 -- each data page has room for the changes that take back what open transactions have written of it
 abbrev pub AreBelowTop : Machine → Type 0
-AreBelowTop m = (x : ℕ) → m.shape.maps ≤ x → x < 253 * m.shape.maps → m.ident x + open_writes m x ≤ 2 ^ 63 + 2 ^ 40
+AreBelowTop m = (x : ℕ) → m.shape.maps ≤ x → x < page_count m.shape → m.ident x + open_writes m x ≤ 2 ^ 63 + 2 ^ 40
 
 -- The logs, the pages and the locks of a store mean this state of the machine.
 pub record Means (p : Plain) (m : Machine) : Type 0 where

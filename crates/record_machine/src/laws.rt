@@ -1,8 +1,11 @@
-ghost use Rattle.std.specs.Prelude.{true, ◌≡◌, ◌≢◌, ◌+◌, ◌*◌, ◌%◌, ◌^◌, ◌≤◌, ◌<◌, ◌++◌, ◌∷◌, [], ℕ, false, List, Option, Some, None, IfSome, IsSome, IsTrue, length, replicate, take};
+//! The laws about the record machine, by which the commands of the store are proved.
+
+ghost use Rattle.std.specs.Prelude.{true, ◌≡◌, ◌≢◌, ◌+◌, ◌*◌, ◌^◌, ◌≤◌, ◌<◌, ◌++◌, ◌∷◌, [], ℕ, false, List, Option, Some, None, IfSome, IsSome, IsTrue, length, replicate, take};
 ghost use Rattle.sd_base.specs.Shape.{IsShape};
 ghost use Rattle.sd_base.specs.declared.names.Key.{Key};
 ghost use Rattle.sd_base.specs.declared.names.TxnId.{TxnId};
 ghost use Rattle.sd_base.specs.declared.shape.Shape.{Shape};
+ghost use Rattle.sd_base.specs.Places.{group_of, map_of_key, slot_of_key};
 ghost use Rattle.page_image.specs.declared.page_view.PageView.{PageView};
 ghost use Rattle.space_map.specs.Image.{MapImage};
 ghost use Rattle.log_record.specs.declared.record.LogRecord.{LogRecord};
@@ -15,7 +18,7 @@ ghost use Rattle.record_locks.specs.Answer.{lock_answer, may_take};
 ghost use Rattle.record_locks.specs.Held.{least_where, mode_of};
 ghost use Rattle.script_text.specs.declared.command.Command.{Command};
 ghost use Rattle.record_machine.specs.Commands.{takes};
-ghost use Rattle.record_machine.specs.Machine.{Deed, Machine, Write, deeds_of, formatted, free_place, group_of, home, map_of, newest_of, owed, seen, writes_of};
+ghost use Rattle.record_machine.specs.Machine.{Deed, Machine, Write, deeds_of, formatted, free_place, home, newest_of, owed, seen, writes_of};
 ghost use Rattle.record_machine.specs.Parts as part;
 ghost use Rattle.record_machine.specs.Parts.{dos, one};
 ghost use Rattle.record_machine.specs.Rows.{AreRows, HasNone, IsNext, Row};
@@ -30,9 +33,9 @@ pub fn law_of_formatted_stores()
 /// slot of the page of the key's group. Where the group has no page, it sees none. Where no transaction
 /// has a lock, the slot has the committed record.
 pub fn law_of_present_records()
-    ensures there { (p : Plain) (m : Machine) (key : Key) (x : ℕ) (t : TxnId) (mode : Mode) → Means p m → home m key.0 ≡ Some x → mode_of m.locks key t ≡ Some mode → content (p.pages x) (key.0 % 16) ≡ seen m t key.0 }
+    ensures there { (p : Plain) (m : Machine) (key : Key) (x : ℕ) (t : TxnId) (mode : Mode) → Means p m → home m key.0 ≡ Some x → mode_of m.locks key t ≡ Some mode → content (p.pages x) (slot_of_key key.0) ≡ seen m t key.0 }
     ensures absent { (p : Plain) (m : Machine) (key : ℕ) (t : TxnId) → Means p m → home m key ≡ None → seen m t key ≡ None }
-    ensures committed { (p : Plain) (m : Machine) (key : Key) (x : ℕ) → Means p m → least_where (λ l mode. true) m.locks ≡ None → home m key.0 ≡ Some x → content (p.pages x) (key.0 % 16) ≡ m.records key.0 }
+    ensures committed { (p : Plain) (m : Machine) (key : Key) (x : ℕ) → Means p m → least_where (λ l mode. true) m.locks ≡ None → home m key.0 ≡ Some x → content (p.pages x) (slot_of_key key.0) ≡ m.records key.0 }
 {}
 
 /// A command that is refused has taken some of its pages and has done no more: records, locks and open
@@ -56,13 +59,13 @@ pub fn law_of_parts()
     ensures start { (p : Plain) (m : Machine) (n : ℕ) → Means p m → Means p (one (part.Start n) m) }
     ensures take { (p : Plain) (m : Machine) (x n : ℕ) → Means p m → Means p (one (part.Take x n) m) }
     ensures begun { (p : Plain) (m : Machine) (t : TxnId) → Means p m → Means (logged t.node.0 Begin p) (one (part.Begin t) m) }
-    ensures used { (p : Plain) (m : Machine) (n place key : ℕ) (rec : LogRecord) (map : MapImage) → home m key ≡ None → free_place m key ≡ Some place → IsUsed m (map_of m key) place (group_of key) (p.maps (map_of m key)) map
-        → Means p m → Means (logged n rec (with_map (map_of m key) map p)) (one (part.Use n (map_of m key) place (group_of key)) m) }
+    ensures used { (p : Plain) (m : Machine) (n place key : ℕ) (rec : LogRecord) (map : MapImage) → home m key ≡ None → free_place m key ≡ Some place → IsUsed m (map_of_key m.shape key) place (group_of key) (p.maps (map_of_key m.shape key)) map
+        → Means p m → Means (logged n rec (with_map (map_of_key m.shape key) map p)) (one (part.Use n (map_of_key m.shape key) place (group_of key)) m) }
     ensures lock { (p : Plain) (m : Machine) (key : Key) (t : TxnId) (mode : Mode) → IsTrue (may_take (lock_answer m.locks key t mode)) → Means p m → Means p (one (part.Lock key t mode) m) }
-    ensures change { (p : Plain) (m : Machine) (t : TxnId) (w : Write) (rec : LogRecord) (v : PageView) → home m w.key ≡ Some w.page → mode_of m.locks (record { 0 = w.key }) t ≡ Some locks.Write → Tells rec w (seen m t w.key) → IsChangedAt (w.key % 16) w.value (p.pages w.page) v
+    ensures change { (p : Plain) (m : Machine) (t : TxnId) (w : Write) (rec : LogRecord) (v : PageView) → home m w.key ≡ Some w.page → mode_of m.locks (record { 0 = w.key }) t ≡ Some locks.Write → Tells rec w (seen m t w.key) → IsChangedAt (slot_of_key w.key) w.value (p.pages w.page) v
         → m.ident w.page < 2 ^ 63 → ((n : ℕ) → 1 ≤ n → n ≤ m.shape.nodes → owed m n ≤ 6 * m.shape.ring)
         → Means p m → Means (logged t.node.0 rec (with_page w.page v p)) (one (part.Change t w) m) }
-    ensures back { (p : Plain) (m : Machine) (t : TxnId) (d : Deed) (w : Write) (rec : LogRecord) (v : PageView) → newest_of m t ≡ Some d → d.write ≡ Some w → 1 ≤ t.node.0 → t.node.0 ≤ m.shape.nodes → IsChangedAt (w.key % 16) (seen (one (part.Back t) m) t w.key) (p.pages w.page) v
+    ensures back { (p : Plain) (m : Machine) (t : TxnId) (d : Deed) (w : Write) (rec : LogRecord) (v : PageView) → newest_of m t ≡ Some d → d.write ≡ Some w → 1 ≤ t.node.0 → t.node.0 ≤ m.shape.nodes → IsChangedAt (slot_of_key w.key) (seen (one (part.Back t) m) t w.key) (p.pages w.page) v
         → Means p m → Means (logged t.node.0 rec (with_page w.page v p)) (one (part.Back t) m) }
     ensures seal { (p : Plain) (m : Machine) (t : TxnId) (rec : LogRecord) → Means p m → Means (logged t.node.0 rec p) (one (part.Seal t) m) }
     ensures sealed { (m : Machine) (t : TxnId) (key : ℕ) → has_written (one (part.Seal t) m) t key ≡ false }

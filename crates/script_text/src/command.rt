@@ -1,3 +1,5 @@
+//! The commands that a line can spell.
+
 use sd_base::{Key, NodeId, Shape, TxnId, Value};
 
 /// What a line asks for.

@@ -24,6 +24,3 @@ pub use reply::Reply;
 pub use spelling::law_of_one_spelling;
 pub use text::ReplyText;
 pub use write::write_reply;
-
-#[cfg(test)]
-mod tests;

@@ -1,3 +1,5 @@
+//! A law: there is one way to split a text into lines.
+
 ghost use Rattle.std.specs.Prelude.{◌≡◌, ℕ, List};
 ghost use Rattle.script_text.specs.Lines.{Splits};
 

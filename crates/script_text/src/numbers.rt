@@ -1,3 +1,5 @@
+//! Numbers are read in the one spelling that each has.
+
 ghost use Rattle.std.specs.Prelude.{◌≡◌, ◌<◌, ◌≤◌, ◌^◌, ◌↔◌, ℕ, decimal, IfSome, IsTrue};
 ghost use Rattle.script_text.specs.Words.{IsWithin};
 

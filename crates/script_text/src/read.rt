@@ -1,3 +1,5 @@
+//! A line is read as the command that it spells.
+
 ghost use Rattle.std.specs.Prelude.{◌≡◌, ◌≤◌, ℕ, List, [], ◌∷◌, length, Some, IfSome, IsTrue, ◌↔◌};
 ghost use Rattle.sd_base.specs.Shape.{IsShape};
 ghost use Rattle.sd_base.specs.declared.names.Key.{Key};

@@ -1,3 +1,5 @@
+//! The replies that a line can get.
+
 use sd_base::{BlockNo, Key, NodeId, PageNo, TxnId, Value};
 
 /// What a line is answered. `dump` is answered with several of these.

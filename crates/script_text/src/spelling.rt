@@ -1,3 +1,5 @@
+//! How the bytes of a value are spelled in printable characters, and how they are read back.
+
 ghost use Rattle.std.specs.Prelude.{◌≡◌, ◌/◌, ◌%◌, ◌<◌, ◌++◌, ℕ, false, List, IfSome, length};
 ghost use Rattle.script_text.specs.Spelling.{is_plain, hex_digit, spelled_byte, spelled, AreBytes, IsValue, SpellsByte};
 

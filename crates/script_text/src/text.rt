@@ -1,3 +1,5 @@
+//! The text of a reply, to which bytes, numbers and spelled bytes are added.
+
 ghost use Rattle.std.specs.Prelude.{◌≡◌, ◌+◌, ◌*◌, ◌≤◌, ◌++◌, length, decimal};
 ghost use Rattle.arrayvec.specs.ArrayVec.{array_vec_len};
 ghost use Rattle.script_text.specs.Spelling.{spelled, spelled_byte};

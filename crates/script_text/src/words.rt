@@ -1,3 +1,5 @@
+//! A line is cut into words, and a word is read as a node, a transaction or a key.
+
 ghost use Rattle.std.specs.Prelude.{◌≡◌, ℕ, List, Some, IfSome, IfNone, IsSomeAnd};
 ghost use Rattle.sd_base.specs.declared.device.NodeId.{NodeId};
 ghost use Rattle.sd_base.specs.declared.names.Key.{Key};

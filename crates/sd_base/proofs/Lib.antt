@@ -6,5 +6,7 @@ mod ValueLaws
 pub mod Rows
 pub mod SlotLaws
 pub mod PageLaws
+pub mod PlaceLaws
 mod SuperFields
 pub mod AnchorFields
+pub mod Positions

@@ -3,10 +3,12 @@ pub mod Outcomes
 pub mod Disk
 pub mod Calls
 pub mod Answers
+pub mod Arm
 pub mod Faults
 pub mod Stream
 pub mod Text
 pub mod Shape
+pub mod Places
 pub mod Supers
 pub mod Page
 pub mod Slot

@@ -1,3 +1,5 @@
+//! The block with a node's anchor: where its log starts, or what is kept of it on the vault.
+
 ghost use Rattle.std.specs.Prelude.{◌≡◌, ℕ, Some, IfSome};
 ghost use Rattle.sd_base.specs.Anchors.{anchor_magic, anchor_text, IsAnchorNumber};
 

@@ -1,3 +1,5 @@
+//! Reads, writes and barriers as calls that give up with a fault.
+
 ghost use Rattle.std.specs.Prelude.{◌≡◌, true, false, IsTrue, IfErr, OnErr, OnOk};
 ghost use Rattle.sd_base.specs.Disk.{IsPort, IsFreeFor};
 ghost use Rattle.sd_base.specs.Calls.{Keeps, Narrows, NarrowsBut, NoNewWriter, NoNewWriterBut, KeepsForeign, KeepsForeignBut, Writes, CutsWrite, Covers, Settles};

@@ -1,3 +1,5 @@
+//! What the store takes for a device: blocks, and a port for each node.
+
 ghost use Rattle.std.specs.Prelude.{◌≡◌, ◌<◌, true, false, None, ℕ, Bool, IsTrue};
 ghost use Rattle.sd_base.specs.Disk.{DiskState, IsLawful, IsFreeFor, IsPort};
 ghost use Rattle.sd_base.specs.Calls.{Keeps, Narrows, NarrowsBut, NoNewWriter, NoNewWriterBut, KeepsForeign, KeepsForeignBut, Writes, CutsWrite, Covers, Settles, CountsStay, IsOrdered, Loses};

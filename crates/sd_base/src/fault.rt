@@ -1,3 +1,5 @@
+//! Why a call that uses a device gives up.
+
 use crate::device::{BlockNo, NodeId};
 use thiserror::Error;
 

@@ -1,3 +1,5 @@
+//! What a stop may leave of a device, before and after its calls, stated as laws.
+
 ghost use Rattle.std.specs.Prelude.{◌≡◌, ◌≢◌, ◌⊎◌, ℕ, List, Option, Some, None};
 ghost use Rattle.sd_base.specs.Disk.{BlockState, MayHold, IsOutcome, IsCovered, IsFreeFor, IsLawful};
 ghost use Rattle.sd_base.specs.Calls.{Narrows, NarrowsBut, NoNewWriter, NoNewWriterBut, KeepsForeign, KeepsForeignBut};

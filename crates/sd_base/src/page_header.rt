@@ -1,3 +1,5 @@
+//! The header that map pages and data pages share: kind, page number and identifier.
+
 ghost use Rattle.std.specs.Prelude.{◌≡◌, []};
 ghost use Rattle.sd_base.specs.Page.{page_text, header_page, header_ident, with_header_ident};
 

@@ -1,3 +1,5 @@
+//! The changes that a page can undergo.
+
 use crate::names::GroupNo;
 use crate::value::Value;
 

@@ -1,3 +1,5 @@
+//! What the bytes of a script come from, and what those of a transcript go to.
+
 ghost use Rattle.std.specs.Prelude.{◌≡◌, ◌≤◌, Bool, IsTrue, length};
 ghost use Rattle.sd_base.specs.Stream.{SourceState, SinkState, GivesCount, GivesBytes, TakesCount, TakesBytes, FlushesCount, FlushesBytes};
 

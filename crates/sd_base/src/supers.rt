@@ -1,3 +1,5 @@
+//! The first block of a device of a store, which holds the store's shape.
+
 ghost use Rattle.std.specs.Prelude.{◌≡◌, IfSome};
 ghost use Rattle.sd_base.specs.Shape.{IsShape};
 ghost use Rattle.sd_base.specs.declared.shape.Shape.{Shape};

@@ -1,3 +1,5 @@
+//! Bytes and numbers are put into a text, and numbers are read from it.
+
 ghost use Rattle.std.specs.Prelude.{◌≡◌, ◌+◌, ◌≤◌, length};
 ghost use Rattle.byteorder.specs.Endian.{big_bytes};
 ghost use Rattle.sd_base.specs.Text.{put, number_at};

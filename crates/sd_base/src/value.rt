@@ -1,3 +1,5 @@
+//! The value of a record: at most 248 bytes.
+
 ghost use Rattle.std.specs.Prelude.{◌≡◌, ◌+◌, ◌<◌, ◌≤◌, ◌↔◌, [], ◌++◌, length, take, IsNone, IfSome};
 
 use crate::text::put_bytes;

@@ -18,7 +18,7 @@ Step-map m c r S T f step = by (refusal m c) refl
   where
     by : (o : Option Reply) → refusal m c ≡ o → Step m c r T
     by None is = let h = rw is at step in rw is (h.0, f _ h.1)
-    by (Some why) is = let h = rw is at step in rw is (h.0, record { count = h.1.count; after = f _ h.1.after })
+    by (Some why) is = let h = rw is at step in rw is (h.0, f _ h.1)
 
 AnswersOpen-map : (stops : Bool) (m : Machine) (c : Command) (r : Reply) (S T : StoreState → Type 0) → ((k : StoreState) → S k → T k) → AnswersOpen stops m c r S → AnswersOpen stops m c r T
 AnswersOpen-map true m c r S T f a = (a.0, f stopped a.1)
@@ -66,7 +66,7 @@ Step-end m c r S step = by (refusal m c) refl
   where
     by : (o : Option Reply) → refusal m c ≡ o → (k : Machine) × S k × Step m c r (λ j. j ≡ k)
     by None is = let h = rw is at step in (_, h.1, rw is (h.0, refl))
-    by (Some why) is = let h = rw is at step in (_, h.1.after, rw is (h.0, record { count = h.1.count; after = refl }))
+    by (Some why) is = let h = rw is at step in (_, h.1, rw is (h.0, refl))
 
 AnswersOpen-end : (stops : Bool) (m : Machine) (c : Command) (r : Reply) (S : StoreState → Type 0) → AnswersOpen stops m c r S → (k : StoreState) × S k × AnswersOpen stops m c r (λ j. j ≡ k)
 AnswersOpen-end true m c r S a = (stopped, a.1, (a.0, refl))

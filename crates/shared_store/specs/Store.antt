@@ -22,9 +22,9 @@ CanServe Closed disk vault = ⊤
 CanServe (Open c) disk vault = cluster.IsServed c disk vault
 
 -- an open store has an uncovered write to no page, and no other port has one
-abbrev pub IsQuiet : Store → (ℕ → BlockState) → Type 0
-IsQuiet Closed b = ⊤
-IsQuiet (Open c) b = cluster.IsQuiet c b
+abbrev pub IsQuietStore : Store → (ℕ → BlockState) → Type 0
+IsQuietStore Closed b = ⊤
+IsQuietStore (Open c) b = cluster.IsQuiet c b
 
 -- the command is answered without a device: with no store open each one but a `format`, and with one what is refused for
 -- what is in memory

@@ -1,7 +1,7 @@
 -- What the store is to its user, and what each line may be answered.
 use Rattle.std.specs.Prelude.{◌≡◌, ◌≢◌, ◌⊎◌, ◌≤◌, ◌<◌, ◌++◌, ⊤, ℕ, Bool, true, false, List, [], ◌∷◌, Option, Some, None, map}
 use Rattle.sd_base.specs.declared.device.NodeId.{NodeId}
-use Rattle.sd_base.specs.Shape.{disk_need}
+use Rattle.sd_base.specs.Shape.{disk_need, vault_need}
 use Rattle.sd_base.specs.declared.shape.Shape.{Shape}
 use Rattle.script_text.specs.Command.{Means}
 use Rattle.script_text.specs.declared.command.Command.{Command}
@@ -11,7 +11,6 @@ use Rattle.script_text.specs.declared.reply.Reply.TheVariants as says
 use Rattle.record_machine.specs.Commands.{Step}
 use Rattle.record_machine.specs.Machine.{Machine, formatted}
 use Rattle.record_machine.specs.Rows.{AreRows, DumpStep, Row, dumped_by, row_reply}
-use Rattle.cluster_core.specs.Places.{vault_need}
 use Rattle.cluster_core.specs.Ports.{says_stop}
 
 -- What is known of block 0 of the disk while no store is open: it is a disk super, or none, or nobody can say.

@@ -1,10 +1,12 @@
+//! A command is executed and its replies are written: one, or the rows of a dump and its end.
+
 ghost use Rattle.std.specs.Prelude.{◌≡◌, ◌≢◌, ◌≤◌, None, IsTrue, true, false, length};
 ghost use Rattle.sd_base.specs.Disk.{DiskState, Rose};
 ghost use Rattle.script_text.specs.Command.{InRange};
 ghost use Rattle.record_machine.specs.Rows.{dumped_by};
 ghost use Rattle.shared_store.specs.Answering.{Sends, SendsPart, end_of_dump};
 ghost use Rattle.shared_store.specs.Devices.{GoesOn, both};
-ghost use Rattle.shared_store.specs.Store.{CanServe, IsQuiet, KeepsPorts, Shows};
+ghost use Rattle.shared_store.specs.Store.{CanServe, IsQuietStore, KeepsPorts, Shows};
 ghost use Rattle.shared_store.specs.StoreState.{StoreState};
 
 use crate::output::say;
@@ -36,9 +38,9 @@ impl Store {
     ) -> bool
         requires range { InRange command.now }
         requires ready { CanServe self.old (D.state disk.old) (V.state vault.old) }
-        requires quiet { IsTrue D.told → IsQuiet self.old (D.state disk.old).block }
+        requires quiet { IsTrue D.told → IsQuietStore self.old (D.state disk.old).block }
         ensures ready { CanServe self.new (D.state disk.new) (V.state vault.new) }
-        ensures quiet { IsTrue D.told → IsQuiet self.new (D.state disk.new).block }
+        ensures quiet { IsTrue D.told → IsQuietStore self.new (D.state disk.new).block }
         ensures disk { GoesOn (D.state disk.old) (D.state disk.new) }
         ensures vault { GoesOn (V.state vault.old) (V.state vault.new) }
         ensures ports { (first : DiskState) → KeepsPorts self.old first (D.state disk.old) → KeepsPorts self.new first (D.state disk.new) }
@@ -68,9 +70,9 @@ impl Store {
         requires range { InRange command.now }
         requires one { dumped_by command.now ≡ None }
         requires ready { CanServe self.old (D.state disk.old) (V.state vault.old) }
-        requires quiet { IsTrue D.told → IsQuiet self.old (D.state disk.old).block }
+        requires quiet { IsTrue D.told → IsQuietStore self.old (D.state disk.old).block }
         ensures ready { CanServe self.new (D.state disk.new) (V.state vault.new) }
-        ensures quiet { IsTrue D.told → IsQuiet self.new (D.state disk.new).block }
+        ensures quiet { IsTrue D.told → IsQuietStore self.new (D.state disk.new).block }
         ensures disk { GoesOn (D.state disk.old) (D.state disk.new) }
         ensures vault { GoesOn (V.state vault.old) (V.state vault.new) }
         ensures ports { (first : DiskState) → KeepsPorts self.old first (D.state disk.old) → KeepsPorts self.new first (D.state disk.new) }
@@ -96,9 +98,9 @@ impl Store {
     ) -> bool
         requires range { InRange (Command.Dump n) }
         requires ready { CanServe self.old (D.state disk.old) (V.state vault.old) }
-        requires quiet { IsTrue D.told → IsQuiet self.old (D.state disk.old).block }
+        requires quiet { IsTrue D.told → IsQuietStore self.old (D.state disk.old).block }
         ensures ready { CanServe self.new (D.state disk.new) (V.state vault.new) }
-        ensures quiet { IsTrue D.told → IsQuiet self.new (D.state disk.new).block }
+        ensures quiet { IsTrue D.told → IsQuietStore self.new (D.state disk.new).block }
         ensures disk { GoesOn (D.state disk.old) (D.state disk.new) }
         ensures vault { GoesOn (V.state vault.old) (V.state vault.new) }
         ensures ports { (first : DiskState) → KeepsPorts self.old first (D.state disk.old) → KeepsPorts self.new first (D.state disk.new) }

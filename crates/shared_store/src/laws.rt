@@ -1,3 +1,5 @@
+//! What holds of a run in which no device stops or fails.
+
 ghost use Rattle.std.specs.Prelude.{◌≡◌, ⊤, ℕ, false, List, All};
 ghost use Rattle.script_text.specs.declared.reply.Reply.{Reply};
 ghost use Rattle.cluster_core.specs.Ports.{says_stop};

@@ -1,3 +1,5 @@
+//! The line that is being read; of one that is too long only the front is kept.
+
 ghost use Rattle.std.specs.Prelude.{◌≡◌, ◌++◌, ◌∷◌, [], ℕ, List};
 ghost use Rattle.script_text.specs.Command.{InRange, Means};
 ghost use Rattle.script_text.specs.Lines.{is_silent};

@@ -1,3 +1,5 @@
+//! The line of a reply is written to the sink and passed on at once.
+
 ghost use Rattle.std.specs.Prelude.{◌≡◌, ◌≢◌, ◌≤◌, ◌++◌, ℕ, false, IsTrue, length, take, MatchBool};
 ghost use Rattle.sd_base.specs.Disk.{Rose};
 ghost use Rattle.script_text.specs.Reply.{reply_text};

@@ -1,3 +1,5 @@
+//! The script is read piece by piece to its end, and the store is closed then.
+
 ghost use Rattle.std.specs.Prelude.{◌≡◌, ◌≢◌, ◌≤◌, ◌<◌, ◌^◌, ◌↔◌, [], IsTrue, vec_len};
 ghost use Rattle.sd_base.specs.Disk.{DiskState, Rose};
 ghost use Rattle.sd_base.specs.Stream.{GivesCount, GivesBytes};
@@ -6,7 +8,7 @@ ghost use Rattle.shared_store.specs.Job.{IsBounded, TellsJob, beginning, status_
 ghost use Rattle.shared_store.specs.Output.{StaysFlushed};
 ghost use Rattle.shared_store.specs.Serving.{Served};
 ghost use Rattle.shared_store.specs.Statement.{TellsRun};
-ghost use Rattle.shared_store.specs.Store.{CanServe, IsQuiet, KeepsPorts, Leaves, Shows, ShowsSeal};
+ghost use Rattle.shared_store.specs.Store.{CanServe, IsQuietStore, KeepsPorts, Leaves, Shows, ShowsSeal};
 ghost use Rattle.shared_store.specs.StoreState.{Seal};
 ghost use Rattle.shared_store.specs.Transcript.{Beginning};
 
@@ -132,7 +134,7 @@ fn read_script<S: Source, K: Sink, D: Disk, V: Disk>(
 ) -> Status
     requires given { (S.state source.old).given ≤ 2 ^ 63 }
     requires ready { CanServe session.old.store (D.state disk.old) (V.state vault.old) }
-    requires quiet { IsTrue D.told → IsQuiet session.old.store (D.state disk.old).block }
+    requires quiet { IsTrue D.told → IsQuietStore session.old.store (D.state disk.old).block }
     ensures usage { result ≢ Status.Usage }
     ensures disk { GoesOn (D.state disk.old) (D.state disk.new) }
     ensures vault { GoesOn (V.state vault.old) (V.state vault.new) }

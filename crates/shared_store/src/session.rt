@@ -1,10 +1,12 @@
+//! A script that is being executed: its bytes come in, and each line is answered at its end.
+
 ghost use Rattle.std.specs.Prelude.{◌≡◌, ◌≤◌, ◌++◌, ◌∷◌, [], ℕ, List, true, false, IsTrue};
 ghost use Rattle.sd_base.specs.Disk.{DiskState, Rose};
 ghost use Rattle.script_text.specs.Lines.{EndsLine};
 ghost use Rattle.shared_store.specs.Devices.{GoesOn, both};
 ghost use Rattle.shared_store.specs.Output.{StaysFlushed};
 ghost use Rattle.shared_store.specs.Serving.{Served};
-ghost use Rattle.shared_store.specs.Store.{CanServe, IsQuiet, KeepsPorts, Shows};
+ghost use Rattle.shared_store.specs.Store.{CanServe, IsQuietStore, KeepsPorts, Shows};
 ghost use Rattle.shared_store.specs.Transcript.{Beginning, Transcribes, TranscribesPart};
 
 use crate::line::LineBuffer;
@@ -30,9 +32,9 @@ impl Session {
         piece: &[u8],
     ) -> bool
         requires ready { CanServe self.old.store (D.state disk.old) (V.state vault.old) }
-        requires quiet { IsTrue D.told → IsQuiet self.old.store (D.state disk.old).block }
+        requires quiet { IsTrue D.told → IsQuietStore self.old.store (D.state disk.old).block }
         ensures ready { CanServe self.new.store (D.state disk.new) (V.state vault.new) }
-        ensures quiet { IsTrue D.told → IsQuiet self.new.store (D.state disk.new).block }
+        ensures quiet { IsTrue D.told → IsQuietStore self.new.store (D.state disk.new).block }
         ensures disk { GoesOn (D.state disk.old) (D.state disk.new) }
         ensures vault { GoesOn (V.state vault.old) (V.state vault.new) }
         ensures ports { (first : DiskState) → KeepsPorts self.old.store first (D.state disk.old) → KeepsPorts self.new.store first (D.state disk.new) }
@@ -65,9 +67,9 @@ impl Session {
         b: u8,
     ) -> bool
         requires ready { CanServe self.old.store (D.state disk.old) (V.state vault.old) }
-        requires quiet { IsTrue D.told → IsQuiet self.old.store (D.state disk.old).block }
+        requires quiet { IsTrue D.told → IsQuietStore self.old.store (D.state disk.old).block }
         ensures ready { CanServe self.new.store (D.state disk.new) (V.state vault.new) }
-        ensures quiet { IsTrue D.told → IsQuiet self.new.store (D.state disk.new).block }
+        ensures quiet { IsTrue D.told → IsQuietStore self.new.store (D.state disk.new).block }
         ensures disk { GoesOn (D.state disk.old) (D.state disk.new) }
         ensures vault { GoesOn (V.state vault.old) (V.state vault.new) }
         ensures ports { (first : DiskState) → KeepsPorts self.old.store first (D.state disk.old) → KeepsPorts self.new.store first (D.state disk.new) }
@@ -100,9 +102,9 @@ impl Session {
         vault: &mut V,
     ) -> bool
         requires ready { CanServe self.old.store (D.state disk.old) (V.state vault.old) }
-        requires quiet { IsTrue D.told → IsQuiet self.old.store (D.state disk.old).block }
+        requires quiet { IsTrue D.told → IsQuietStore self.old.store (D.state disk.old).block }
         ensures ready { CanServe self.new.store (D.state disk.new) (V.state vault.new) }
-        ensures quiet { IsTrue D.told → IsQuiet self.new.store (D.state disk.new).block }
+        ensures quiet { IsTrue D.told → IsQuietStore self.new.store (D.state disk.new).block }
         ensures disk { GoesOn (D.state disk.old) (D.state disk.new) }
         ensures vault { GoesOn (V.state vault.old) (V.state vault.new) }
         ensures ports { (first : DiskState) → KeepsPorts self.old.store first (D.state disk.old) → KeepsPorts self.new.store first (D.state disk.new) }

@@ -1,3 +1,5 @@
+//! The store of a session: none is open at first, and `format` opens one.
+
 ghost use Rattle.std.specs.Prelude.{◌≡◌, ◌≢◌, None, IsTrue};
 ghost use Rattle.sd_base.specs.Disk.{DiskState};
 ghost use Rattle.sd_base.specs.Shape.{IsShape};
@@ -6,7 +8,7 @@ ghost use Rattle.record_machine.specs.Rows.{dumped_by, next_key};
 ghost use Rattle.shared_store.specs.Answering.{IsRowFrom, NextAnswered};
 ghost use Rattle.shared_store.specs.Causes.{HasCause};
 ghost use Rattle.shared_store.specs.Devices.{GoesOn, OpensNoPort, both};
-ghost use Rattle.shared_store.specs.Store.{CanServe, IsAnsweredAlone, IsQuiet, KeepsPorts, Leaves, Shows, ShowsSeal};
+ghost use Rattle.shared_store.specs.Store.{CanServe, IsAnsweredAlone, IsQuietStore, KeepsPorts, Leaves, Shows, ShowsSeal};
 ghost use Rattle.shared_store.specs.StoreState.{AnsweredOnce, Seal, StoreState, shut};
 
 use cluster_core::Cluster;
@@ -38,9 +40,9 @@ impl Store {
         requires range { InRange command.now }
         requires one { dumped_by command.now ≡ None }
         requires ready { CanServe self.old (D.state disk.old) (V.state vault.old) }
-        requires quiet { IsTrue D.told → IsQuiet self.old (D.state disk.old).block }
+        requires quiet { IsTrue D.told → IsQuietStore self.old (D.state disk.old).block }
         ensures ready { CanServe self.new (D.state disk.new) (V.state vault.new) }
-        ensures quiet { IsTrue D.told → IsQuiet self.new (D.state disk.new).block }
+        ensures quiet { IsTrue D.told → IsQuietStore self.new (D.state disk.new).block }
         ensures disk { GoesOn (D.state disk.old) (D.state disk.new) }
         ensures vault { GoesOn (V.state vault.old) (V.state vault.new) }
         ensures cause { HasCause result (both (D.state disk.old) (V.state vault.old)) (both (D.state disk.new) (V.state vault.new)) }
@@ -68,9 +70,9 @@ impl Store {
     ) -> Reply
         requires range { InRange (Command.Dump n) }
         requires ready { CanServe self.old (D.state disk.old) (V.state vault.old) }
-        requires quiet { IsTrue D.told → IsQuiet self.old (D.state disk.old).block }
+        requires quiet { IsTrue D.told → IsQuietStore self.old (D.state disk.old).block }
         ensures ready { CanServe self.new (D.state disk.new) (V.state vault.new) }
-        ensures quiet { IsTrue D.told → IsQuiet self.new (D.state disk.new).block }
+        ensures quiet { IsTrue D.told → IsQuietStore self.new (D.state disk.new).block }
         ensures disk { GoesOn (D.state disk.old) (D.state disk.new) }
         ensures vault { GoesOn (V.state vault.old) (V.state vault.new) }
         ensures cause { HasCause result (both (D.state disk.old) (V.state vault.old)) (both (D.state disk.new) (V.state vault.new)) }
@@ -99,7 +101,7 @@ impl Store {
         requires one { dumped_by command.now ≡ None }
         requires closed { self.old ≡ Store.Closed }
         ensures ready { CanServe self.new (D.state disk.new) (V.state vault.new) }
-        ensures quiet { IsTrue D.told → IsQuiet self.new (D.state disk.new).block }
+        ensures quiet { IsTrue D.told → IsQuietStore self.new (D.state disk.new).block }
         ensures disk { GoesOn (D.state disk.old) (D.state disk.new) }
         ensures vault { GoesOn (V.state vault.old) (V.state vault.new) }
         ensures cause { HasCause result (both (D.state disk.old) (V.state vault.old)) (both (D.state disk.new) (V.state vault.new)) }
@@ -139,7 +141,7 @@ impl Store {
         requires one { shape.nodes ≡ 1 }
         requires closed { self.old ≡ Store.Closed }
         ensures ready { CanServe self.new (D.state disk.new) (V.state vault.new) }
-        ensures quiet { IsTrue D.told → IsQuiet self.new (D.state disk.new).block }
+        ensures quiet { IsTrue D.told → IsQuietStore self.new (D.state disk.new).block }
         ensures disk { GoesOn (D.state disk.old) (D.state disk.new) }
         ensures vault { GoesOn (V.state vault.old) (V.state vault.new) }
         ensures cause { HasCause result (both (D.state disk.old) (V.state vault.old)) (both (D.state disk.new) (V.state vault.new)) }

@@ -2,3 +2,4 @@ mod EntryLaws
 pub mod ImageLaws
 mod Finding
 pub mod LifeLaws
+pub mod PageImageLaws

@@ -23,11 +23,11 @@ entry_ident m place = ident_of (slice_index_or m.entries place (Free 0))
 abbrev pub with_entry : ℕ → MapEntry → MapImage → MapImage
 with_entry place e m = record m { ident = m.ident + 1; entries = slice_set m.entries place e }
 
--- the map page after a change: an entry that comes into use keeps its identifier, and one that
--- becomes free gets a new one
+-- The map page after a change: an entry that comes into use keeps its identifier, and one that becomes free gets a new one. Each
+-- change gives the next identifier of the page, so that it counts the changes; one of a slot does nothing else.
 abbrev pub applied_map : PageOp → MapImage → MapImage
-applied_map (Put slot after) m = m
-applied_map (Append slot bytes) m = m
-applied_map (Cut slot present len) m = m
+applied_map (Put slot after) m = record m { ident = m.ident + 1 }
+applied_map (Append slot bytes) m = record m { ident = m.ident + 1 }
+applied_map (Cut slot present len) m = record m { ident = m.ident + 1 }
 applied_map (MapUse place group) m = with_entry place (Used group (entry_ident m place)) m
 applied_map (MapFree place ident) m = with_entry place (Free ident) m

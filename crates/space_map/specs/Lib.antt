@@ -3,3 +3,4 @@ pub mod Image
 pub mod Reading
 pub mod Change
 pub mod Life
+pub mod PageImage

@@ -1,3 +1,5 @@
+//! A map page is changed: one entry of it, and its identifier.
+
 ghost use Rattle.std.specs.Prelude.{◌≡◌, ◌+◌, ◌^◌, ◌≤◌, ◌<◌};
 ghost use Rattle.space_map.specs.declared.map_entry.MapEntry.TheVariants.{Used};
 ghost use Rattle.space_map.specs.Entry.{IsEntry};

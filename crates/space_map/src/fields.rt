@@ -1,3 +1,5 @@
+//! Where each entry stands in the block of a map page, and how it is written and read.
+
 ghost use Rattle.std.specs.Prelude.{◌≡◌, ◌+◌, ◌*◌, ◌≤◌, ◌↔◌, IsTrue, drop};
 ghost use Rattle.sd_base.specs.Text.{put};
 ghost use Rattle.space_map.specs.Entry.{IsEntry, ident_of, fields_text, entry_text, entry_of_text};

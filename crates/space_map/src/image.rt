@@ -1,3 +1,5 @@
+//! The block of a whole map page: read, and written as it is when the page is born.
+
 ghost use Rattle.std.specs.Prelude.{◌≡◌, ◌+◌, ◌^◌, ◌<◌, ◌≤◌, ◌↔◌, ℕ, List, All, IfSome, Some, IsTrue, slice_get};
 ghost use Rattle.space_map.specs.Entry.{IsEntry};
 ghost use Rattle.space_map.specs.Image.{MapImage, IsMapText, map_text, birth_map};

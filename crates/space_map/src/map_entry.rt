@@ -1,3 +1,5 @@
+//! What a map page says of one data page: it is free, or a group uses it.
+
 use sd_base::GroupNo;
 
 /// What a map page has of one of its data pages. The identifiers are at most 2^63 + 2^40, and the

@@ -1,3 +1,5 @@
+//! A map page is searched for the entry of a group, or for a free one.
+
 ghost use Rattle.std.specs.Prelude.{◌≡◌, ◌≤◌, IfSome, position};
 ghost use Rattle.space_map.specs.Entry.{is_used_by, is_free};
 ghost use Rattle.space_map.specs.Image.{MapImage, IsMapText};

@@ -1,3 +1,5 @@
+//! An image that an earlier life of a data page has left counts as the blank page.
+
 ghost use Rattle.std.specs.Prelude.{◌+◌, ◌^◌, ◌≤◌};
 ghost use Rattle.space_map.specs.Entry.{ident_of};
 ghost use Rattle.space_map.specs.Life.{DataPage, IsDataText, page_in_life};

@@ -1,5 +1,5 @@
 -- Pages in frames, and their texts.
-use Rattle.std.proofs.Common.{◌≡◌, ◌≤◌, ◌+◌, ℕ, true, false, List, Option, Some, None, is_some, set, refl, sym, ◌∙◌, ap, subst, arith}
+use Rattle.std.proofs.Common.{◌≡◌, ◌≤◌, ℕ, true, false, List, Option, Some, None, is_some, set, sym, ◌∙◌, ap, subst, arith}
 use Rattle.std.proofs.lemmas.List.{get_or-set_same}
 use Rattle.sd_base.specs.declared.names.PageNo.{PageNo}
 use Rattle.sd_base.specs.declared.shape.Shape.{Shape}
@@ -10,13 +10,13 @@ use Rattle.space_map.specs.Image.{MapImage, IsMapText}
 use Rattle.space_map.specs.Life.{DataPage, IsDataText, page_in_life}
 use Rattle.frame_pool.specs.Frames.{frame_at, IsOut}
 use Rattle.frame_pool.proofs.PoolLaws.{IsOut-within}
-use Rattle.state_ids.specs.PageImage.{PageImage, data_page, map_page, page_of, IsText, data_of, view_of, in_life, is_map, is_map_op, ident_of, changed}
+use Rattle.state_ids.specs.PageImage.{PageImage, data_page, map_page, page_of, IsText, data_of, view_of, in_life, is_map, is_map_op, changed}
 use Rattle.sd_base.specs.declared.page_op.PageOp.{PageOp}
-use Rattle.sd_base.specs.declared.page_op.PageOp.TheVariants.{Put, Append, Cut, MapUse, MapFree}
 use Rattle.page_image.specs.Change.{applied}
 use Rattle.space_map.specs.Change.{applied_map}
 use Rattle.state_ids.specs.Held.{Shows}
 use Rattle.state_ids.specs.Blocks.{IsOfKind, HoldsPage}
+pub use Rattle.space_map.proofs.PageImageLaws.{changed-page, changed-map, changed-ident, in_life-page, in_life-map}
 
 -- the text of a data page, in the words for what it holds
 pub data_text : (v : PageView) (b : List ℕ) → IsTextOf v b → IsDataText v.page (data_of v) b
@@ -74,49 +74,8 @@ pub changed_map : (op : PageOp) (image : PageImage) (b c : List ℕ) → is_map_
 changed_map op (data_page v) b c entry kind t does = absurd (let no : false ≡ true = kind ∙ entry in cc)
 changed_map op (map_page m) b c entry kind t does = does m t
 
--- a page under its map entry keeps its number and its kind
-pub in_life-page : (e : Option MapEntry) (image : PageImage) → page_of (in_life e image) ≡ page_of image
-in_life-page None image = refl
-in_life-page (Some e) (data_page v) = refl
-in_life-page (Some e) (map_page m) = refl
-
+-- a page under its map entry keeps its kind
 pub in_life-kind : (s : Shape) (e : Option MapEntry) (image : PageImage) → IsOfKind s image → IsOfKind s (in_life e image)
 in_life-kind s None image kind = kind
 in_life-kind s (Some e) (data_page v) kind = kind
 in_life-kind s (Some e) (map_page m) kind = kind
-
-pub in_life-map : (e : Option MapEntry) (image : PageImage) → is_map (in_life e image) ≡ is_map image
-in_life-map None image = refl
-in_life-map (Some e) (data_page v) = refl
-in_life-map (Some e) (map_page m) = refl
-
--- what a change leaves of a page
-pub changed-page : (op : PageOp) (image : PageImage) → page_of (changed op image) ≡ page_of image
-changed-page (Put slot after) (data_page v) = refl
-changed-page (Append slot bytes) (data_page v) = refl
-changed-page (Cut slot true len) (data_page v) = refl
-changed-page (Cut slot false len) (data_page v) = refl
-changed-page (MapUse place group) (data_page v) = refl
-changed-page (MapFree place ident) (data_page v) = refl
-changed-page (Put slot after) (map_page m) = refl
-changed-page (Append slot bytes) (map_page m) = refl
-changed-page (Cut slot present len) (map_page m) = refl
-changed-page (MapUse place group) (map_page m) = refl
-changed-page (MapFree place ident) (map_page m) = refl
-
-pub changed-map : (op : PageOp) (image : PageImage) → is_map (changed op image) ≡ is_map image
-changed-map op (data_page v) = refl
-changed-map op (map_page m) = refl
-
-pub changed-ident : (op : PageOp) (image : PageImage) → is_map image ≡ is_map_op op → ident_of (changed op image) ≡ ident_of image + 1
-changed-ident (Put slot after) (data_page v) kind = refl
-changed-ident (Append slot bytes) (data_page v) kind = refl
-changed-ident (Cut slot true len) (data_page v) kind = refl
-changed-ident (Cut slot false len) (data_page v) kind = refl
-changed-ident (MapUse place group) (data_page v) kind = cc
-changed-ident (MapFree place ident) (data_page v) kind = cc
-changed-ident (Put slot after) (map_page m) kind = cc
-changed-ident (Append slot bytes) (map_page m) kind = cc
-changed-ident (Cut slot present len) (map_page m) kind = cc
-changed-ident (MapUse place group) (map_page m) kind = refl
-changed-ident (MapFree place ident) (map_page m) kind = refl

@@ -1,6 +1,7 @@
 -- A page in a frame, and what it takes to change it.
-use Rattle.std.specs.Prelude.{◌≡◌, ◌+◌, ◌*◌, ◌≤◌, ℕ, List, Option, Some, slice_set, slice_index_or}
+use Rattle.std.specs.Prelude.{◌≡◌, ◌+◌, ◌≤◌, ℕ, List, Option, Some, slice_set, slice_index_or}
 use Rattle.sd_base.specs.Shape.{IsShape}
+use Rattle.sd_base.specs.Places.{page_of_place}
 use Rattle.sd_base.specs.declared.shape.Shape.{Shape}
 use Rattle.sd_base.specs.declared.names.PageNo.{PageNo}
 use Rattle.sd_base.specs.declared.page_op.PageOp.{PageOp}
@@ -49,5 +50,5 @@ pub record IsFreed (pool : List (Option (List ℕ))) (frame map : ℕ) : Type 0 
   pub entries : Shows pool map (map_page image)
   pub place : ℕ
   pub within : place ≤ 251
-  pub number : page.page.0 ≡ shape.maps + 252 * image.page.0 + place
+  pub number : page.page.0 ≡ page_of_place shape image.page.0 place
   pub free : slice_index_or image.entries place (Free 0) ≡ Free (page.ident + 1)

@@ -1,3 +1,5 @@
+//! A page in a frame is changed, which takes the token of a log record.
+
 ghost use Rattle.std.specs.Prelude.{◌≡◌, ◌<◌, ◌^◌, ◌+◌, ℕ};
 ghost use Rattle.frame_pool.specs.Frames.{IsOut};
 ghost use Rattle.state_ids.specs.PageImage.{PageImage, page_of, ident_of, is_map, is_map_op, IsInRange, changed};

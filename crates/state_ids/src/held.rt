@@ -1,3 +1,5 @@
+//! A page in a frame, whose type says whether it has changes that its block hasn't.
+
 ghost use Rattle.std.specs.Prelude.{◌≡◌, ℕ, false, Some};
 ghost use Rattle.sd_base.specs.Disk.{IsPort};
 ghost use Rattle.frame_pool.specs.Frames.{IsOut, frame_at};

@@ -1,3 +1,5 @@
+//! A page is read from its block into a frame, if the block is an image of it.
+
 ghost use Rattle.std.specs.Prelude.{◌≡◌, ◌↔◌, ◌<◌, ◌≤◌, ℕ, true, false, Some, IsTrue, IfOk, IfErr, OnOk, MatchResult, length};
 ghost use Rattle.sd_base.specs.Disk.{IsPort};
 ghost use Rattle.sd_base.specs.Calls.{Keeps, Narrows, NoNewWriter, KeepsForeign};

@@ -1,3 +1,5 @@
+//! A changed page is written to its block, once the log is stable up to its last change.
+
 ghost use Rattle.std.specs.Prelude.{◌≡◌, ◌≢◌, ◌<◌, ℕ, List, Some, None, true, false, IsTrue, IfOk, IfErr, OnOk, OnErr};
 ghost use Rattle.sd_base.specs.Disk.{IsPort, IsFreeFor, IsCovered, Holds};
 ghost use Rattle.sd_base.specs.Calls.{Keeps, NarrowsBut, NoNewWriterBut, KeepsForeignBut};

@@ -7,7 +7,7 @@
 
 mod streams;
 
-use disk_model::MemDisk;
+use disk_model::{Fused, MemDisk};
 use shared_store::{Status, run};
 use std::alloc::{AllocError, Global};
 use std::env::{self, Env};
@@ -64,10 +64,10 @@ fn words(rt: &(impl Env + AllocGlobal)) -> io::Result<Vec<String>> {
     Ok(words)
 }
 
-/// The disk and the vault.
-fn devices(alloc: Global) -> Result<(MemDisk, MemDisk), AllocError> {
-    let disk = MemDisk::new(alloc, DISK_BLOCKS)?;
-    let vault = MemDisk::new(alloc, VAULT_BLOCKS)?;
+/// The disk and the vault, at which nothing is armed.
+fn devices(alloc: Global) -> Result<(Fused<MemDisk>, Fused<MemDisk>), AllocError> {
+    let disk = Fused::new(MemDisk::new(alloc, DISK_BLOCKS)?);
+    let vault = Fused::new(MemDisk::new(alloc, VAULT_BLOCKS)?);
     Ok((disk, vault))
 }
 

@@ -1,3 +1,5 @@
+//! Any reader as the source of a script, and any writer as the sink of a transcript.
+
 ghost use Rattle.std.specs.Prelude.{◌≡◌, false, []};
 ghost use Rattle.sd_base.specs.Stream.{SourceState, SinkState};
 

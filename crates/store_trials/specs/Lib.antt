@@ -2,4 +2,3 @@ pub mod Cut
 pub mod Faulty
 pub mod Client
 pub mod LogTrial
-pub mod PageTrial

@@ -1,3 +1,5 @@
+//! Two blocks are written in order: what can be proved of such a client over any device.
+
 ghost use Rattle.std.specs.Prelude.{◌≡◌, ◌≢◌, true, IsTrue};
 ghost use Rattle.sd_base.specs.Disk.{IsPort, IsFreeFor};
 ghost use Rattle.sd_base.specs.Calls.{Keeps, NarrowsBut, NoNewWriterBut, KeepsForeignBut, Writes};

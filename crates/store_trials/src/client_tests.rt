@@ -1,3 +1,5 @@
+//! What stops and failures at each call leave of two blocks that are written in order.
+
 ghost use Rattle.std.specs.Prelude.{◌≡◌, ◌≤◌, ◌<◌, ℕ, IsTrue, None};
 
 use crate::{CutDisk, Faults, FaultyDisk, write_in_order};

@@ -1,3 +1,5 @@
+//! A device over another one, at one call of which the port stops.
+
 ghost use Rattle.std.specs.Prelude.{◌≡◌, ◌≢◌, ◌↔◌, ◌+◌, ◌-◌, ◌^◌, ℕ, true, IsTrue, min, replicate};
 ghost use Rattle.sd_base.specs.Disk.{IsPort, IsFreeFor};
 ghost use Rattle.sd_base.specs.Calls.{Keeps, Narrows, NarrowsBut, NoNewWriter, NoNewWriterBut, KeepsForeign, KeepsForeignBut, Writes, CutsWrite, Covers, Settles};

@@ -1,3 +1,5 @@
+//! A device in memory that stops, fails or reads wrong content where it is told to.
+
 ghost use Rattle.std.specs.Prelude.{◌≡◌, ◌<◌, ◌+◌, ◌-◌, ◌^◌, true, false, length, min, IfOk};
 ghost use Rattle.sd_base.specs.Disk.{IsPort};
 ghost use Rattle.sd_base.specs.Calls.{Keeps};

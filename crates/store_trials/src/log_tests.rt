@@ -1,16 +1,16 @@
-ghost use Rattle.std.specs.Prelude.{◌≡◌, ◌≤◌, ◌<◌, ℕ, true, IsTrue, OnOk, IfOk, None};
+//! What stops leave of a log, and what is made of lost and damaged blocks in it.
+
+ghost use Rattle.std.specs.Prelude.{◌≡◌, ◌≤◌, ◌<◌, true, OnOk};
 ghost use Rattle.store_trials.specs.LogTrial.{IsReady, IsFreeForOne};
 
 use disk_model::MemDisk;
 use private_log::Log;
-use sd_base::{
-    Block, BlockNo, DevFault, Disk, NodeId, Shape, cover, read_block, write_anchor, write_block,
-};
+use sd_base::{Block, BlockNo, DevFault, Disk, NodeId, Shape, cover, write_anchor, write_block};
 use std::test::Fail;
 
-pub(crate) const NODE: NodeId = NodeId(1);
+const NODE: NodeId = NodeId(1);
 
-pub(crate) const SHAPE: Shape = Shape {
+const SHAPE: Shape = Shape {
     nodes: 1,
     ring: 4,
     maps: 1,
@@ -43,7 +43,7 @@ fn text(number: u64) -> [u8; 672] {
 }
 
 /// Writes the anchor of a log that starts with block 0.
-pub(crate) fn write_start<D: Disk>(disk: &mut D) -> Result<(), DevFault>
+fn write_start<D: Disk>(disk: &mut D) -> Result<(), DevFault>
     requires live { (D.state disk.old).live 1 ≡ true }
     requires size { 6 ≤ (D.state disk.old).size }
     requires free { IsFreeForOne D.told (D.state disk.old) }
@@ -216,51 +216,5 @@ fn blocks_that_may_not_stand_in_a_log(rt: HostRuntime) -> Result<(), Fail> {
             "block {at}"
         );
     }
-    Ok(())
-}
-
-/// Attaches the log where a block of its region is lost.
-fn attach_without<D: Disk>(disk: &mut D, at: BlockNo) -> Result<u64, DevFault>
-    requires at { at.0 < 6 }
-    requires size { 6 ≤ (D.state disk.old).size }
-    requires quiet { IsTrue D.told → (k : ℕ) → ((D.state disk.old).block k).writer ≡ None }
-{
-    disk.start(NODE);
-    disk.lose(at);
-    let log = Log::attach(disk, &SHAPE, NODE, NODE)?;
-    Ok(log.tail())
-}
-
-/// Attaches the log of a disk whose anchor was written, and reads its first record after the record's
-/// block was written over.
-fn read_over<D: Disk>(disk: &mut D, content: &Block) -> Result<u8, DevFault>
-    requires size { 6 ≤ (D.state disk.old).size }
-    requires free { IsFreeForOne D.told (D.state disk.old) }
-{
-    disk.start(NODE);
-    write_start(disk)?;
-    take_steps(disk, &[Step::Append(7), Step::Force])?;
-    disk.stop(NODE, 0);
-    disk.start(NODE);
-    let log = Log::attach(disk, &SHAPE, NODE, NODE)?;
-    write_block(disk, NODE, BlockNo(2), content)?;
-    let mut record = [9; 672];
-    if log.start() == 0 && log.tail() == 7 {
-        log.read(disk, NODE, 6, &mut record)?;
-        log.read(disk, NODE, 0, &mut record)?;
-    }
-    Ok(record[0])
-}
-
-#[test]
-fn blocks_that_are_lost_or_written_over(rt: HostRuntime) -> Result<(), Fail> {
-    let mut disk = MemDisk::new(rt.alloc(), 6)?;
-    assert_eq!(rt;
-        attach_without(&mut disk, BlockNo(1)),
-        Err(DevFault::Lost(BlockNo(1)))
-    );
-    let mut disk = MemDisk::new(rt.alloc(), 6)?;
-    let damaged = Err(DevFault::Damaged(BlockNo(2)));
-    assert_eq!(rt; read_over(&mut disk, &[0; 4096]), damaged);
     Ok(())
 }

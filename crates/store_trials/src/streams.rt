@@ -1,3 +1,5 @@
+//! A script and a transcript in memory, which fail where they are told to.
+
 ghost use Rattle.std.specs.Prelude.{◌≡◌, ◌<◌, ◌≤◌, true, length, []};
 ghost use Rattle.sd_base.specs.Stream.{SourceState, SinkState};
 

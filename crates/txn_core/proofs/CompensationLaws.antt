@@ -1,6 +1,5 @@
 -- The record that takes an update back, and the page of the update.
-use Rattle.std.specs.Prelude.{◌≡◌, ◌≤◌, ℕ, Bool, true, false, [], ◌∷◌, List, Option, Some, None, All, IfSome, IsTrue, is_some, suc, refl}
-use Rattle.std.specs.List.{find}
+use Rattle.std.specs.Prelude.{◌≡◌, ◌≤◌, ℕ, true, false, List, Option, Some, None, IfSome, IsTrue, is_some, refl}
 use Rattle.std.proofs.Common.{arith, ap, subst, sym, ◌∙◌}
 use Rattle.sd_base.specs.declared.names.PageNo.{PageNo}
 use Rattle.sd_base.specs.declared.page_op.PageOp.{PageOp}
@@ -12,20 +11,11 @@ use Rattle.state_ids.specs.Held.{Shows}
 use Rattle.state_ids.specs.Blocks.{IsOfKind, ShowsPage}
 use Rattle.state_ids.specs.PageImage.{PageImage, data_page, map_page, page_of}
 use Rattle.state_ids.proofs.OneImage.{one_shown}
-use Rattle.state_ids.proofs.PageLaws.{Shows-out}
-use Rattle.node_cache.specs.Cache.{AreOut, AreShown, CachedPage, CacheState, is_cached, is_page, page_at}
+use Rattle.node_cache.specs.Cache.{AreShown, CachedPage, CacheState, is_cached, is_page, page_at}
 use Rattle.node_cache.proofs.OnePage.{found, is_page-same}
 use Rattle.txn_core.specs.Undo.{IsPageOf}
 use Rattle.txn_core.specs.Updates.{HasPage}
-
--- what holds of all holds of the one that is found
-pub find_all : {X : Type 0} (P : X → Type 0) (test : X → Bool) (xs : List X) (x : X) → find test xs ≡ Some x → All P xs → P x
-find_all P test [] x is all = absurd (let never : None ≡ Some x = is in cc)
-find_all P test (y ∷ ys) x is all = by (test y) refl is (λ on. find_all P test ys x on (λ k d below. all (suc k) d (omega (arith, below))))
-  where
-    by : (b : Bool) → test y ≡ b → find test (y ∷ ys) ≡ Some x → (find test ys ≡ Some x → P x) → P x
-    by true is_it this later = let same : y ≡ x = cc in subst P same (all 0 y (omega arith))
-    by false other rest later = later (let on : find test ys ≡ Some x = cc in on)
+use Rattle.sd_base.proofs.Positions.{find_all}
 
 -- the cached page x is shown in its frame
 shown_of : (s : Shape) (pool : List (Option (List ℕ))) (c : CacheState) (x : PageNo) (p : CachedPage) → AreShown s pool c → page_at x c.pages ≡ Some p → ShowsPage s x pool p.frame
@@ -56,10 +46,6 @@ data_number s pool c x v all has =
 -- and is cached
 pub is_there : (pool : List (Option (List ℕ))) (c : CacheState) (x : PageNo) (v : PageView) → HasPage pool c.pages x v → is_cached x c ≡ true
 is_there pool c x v has = ap is_some has.there
-
--- a page that is shown in its frame has its frame out
-pub out_of_shown : (s : Shape) (pool : List (Option (List ℕ))) (c : CacheState) → AreShown s pool c → AreOut pool c
-out_of_shown s pool c all k d below = let image = all k d below in Shows-out pool _ image.0 image.1
 
 -- the page of a record is the one that it changes
 pub own_page : (update : LogRecord) (v : PageView) (change : PageNo × ℕ × PageOp) → page_op_of update ≡ Some change → IsPageOf update v → v.page ≡ change.0

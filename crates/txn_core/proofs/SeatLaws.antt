@@ -1,5 +1,5 @@
 -- What becomes of the seats, and of their tie to a cache, when one of them changes.
-use Rattle.std.specs.Prelude.{◌≡◌, ◌≢◌, ◌+◌, ◌*◌, ◌≤◌, ◌<◌, ◌++◌, ◌∷◌, [], ℕ, List, Option, Some, None, All, AllPairs, IfSome, length, slice_index_or, slice_set, is_some, zero, suc, true, false, ◌%◌, refl}
+use Rattle.std.specs.Prelude.{◌≡◌, ◌≢◌, ◌+◌, ◌*◌, ◌≤◌, ◌<◌, ◌++◌, ◌∷◌, [], ℕ, List, Option, Some, None, All, AllPairs, IfSome, IsTrue, length, slice_index_or, slice_set, is_some, zero, suc, true, false, ◌%◌, refl}
 use Rattle.std.specs.List.{sum_by}
 use Rattle.std.proofs.Common.{arith, inl, inr, ap, subst, sym, ◌∙◌}
 use Rattle.std.proofs.lemmas.Bool.{cases_eq}
@@ -14,10 +14,13 @@ use Rattle.private_log.specs.Log.{LogState, SameLog, region, space, written}
 use Rattle.private_log.proofs.LogLaws.{carry}
 use Rattle.private_log.proofs.Outcomes.{less_front}
 use Rattle.private_log.specs.Log.{IsLog}
-use Rattle.log_record.specs.Legal.{IsLegal}
+use Rattle.log_record.specs.Legal.{IsLegal, IsRecordNo}
 use Rattle.log_record.specs.declared.record.LogRecord.{LogRecord}
 use Rattle.log_record.specs.declared.record.LogRecord.TheVariants.{Begin}
 use Rattle.node_cache.specs.Cache.{CacheState, IsOfStore}
+use Rattle.txn_core.specs.declared.ending.Ending.{Ending}
+use Rattle.txn_core.specs.declared.ending.Ending.TheVariants.{Commit, Abort}
+use Rattle.txn_core.specs.Ending.{end_record}
 use Rattle.txn_core.specs.Seats.{AreApart, AreTied, OpenTxn, SeatsState, is_busy, owed, owed_in, txn_in}
 use Rattle.txn_core.specs.Told.{AreTold, IsOpenIn}
 use Rattle.compensation.specs.Left.{is_update_of, next_after}
@@ -179,17 +182,35 @@ room_for_end s c seat tie below busy =
 pub owed_at : (s : SeatsState) (seat : ℕ) (t : OpenTxn) → seat < length s.seats → txn_in s seat ≡ Some t → 1 + t.left ≤ owed s
 owed_at s seat t below is = let less = owed_set s.seats seat (Some t) None below is in omega (arith, less)
 
--- and the records tell it, where the end is no change
-pub told_ended : (s : SeatsState) (start seat : ℕ) (recs : List LogRecord) (rec : LogRecord) → ((t : ℕ) → is_update_of t rec ≡ false) → ((t : ℕ) → next_after t rec ≡ None) → (fields_of rec).txn ≤ 6 * start + length recs → AreTold s start recs
-    → AreTold (record { node = s.node; seats = slice_set s.seats seat None }) start (recs ++ rec ∷ [])
-told_ended s start seat recs rec none nothing named told = record {
-  names = names-push (6 * start) recs rec told.names named;
-  each = All-set (λ o. IfSome o (IsOpenIn (6 * start) (recs ++ rec ∷ []))) s.seats seat None tt (λ i d below. another (slice_index_or s.seats i d) (told.each i d below));
+-- the record is that of the transaction in the seat
+pub ends_seated : (s : SeatsState) (seat : ℕ) (ending : Ending) (u t : OpenTxn) (rec : LogRecord) → txn_in s seat ≡ Some u → rec ≡ end_record ending u → txn_in s seat ≡ Some t → rec ≡ end_record ending t
+ends_seated s seat ending u t rec there is here = let same : u ≡ t = cc in is ∙ ap (end_record ending) same
+
+-- it is legal
+ends_legal : (ending : Ending) (t : OpenTxn) → IsRecordNo t.begin → IsRecordNo t.last → IsLegal (end_record ending t)
+ends_legal Commit t begin last = record { page = omega arith; bsi = omega arith; txn = begin; prev = last; group = omega arith; place = tt; extra = tt; contents = tt }
+ends_legal Abort t begin last = record { page = omega arith; bsi = omega arith; txn = begin; prev = last; group = omega arith; place = tt; extra = tt; contents = tt }
+
+-- it is no update, and takes none back
+pub ends_alone : (ending : Ending) (t : OpenTxn) (k : ℕ) → (is_update_of k (end_record ending t) ≡ false) × (next_after k (end_record ending t) ≡ None)
+ends_alone Commit t k = (refl, refl)
+ends_alone Abort t k = (refl, refl)
+
+-- and the records tell it, since the end is no change
+pub told_ended : (s : SeatsState) (start seat : ℕ) (recs : List LogRecord) (ending : Ending) (t : OpenTxn) → t.begin ≤ 6 * start + length recs → AreTold s start recs
+    → AreTold (record { node = s.node; seats = slice_set s.seats seat None }) start (recs ++ end_record ending t ∷ [])
+told_ended s start seat recs ending t named told = record {
+  names = names-push (6 * start) recs (end_record ending t) told.names (in_log ending);
+  each = All-set (λ o. IfSome o (IsOpenIn (6 * start) (recs ++ end_record ending t ∷ []))) s.seats seat None tt (λ i d below. another (slice_index_or s.seats i d) (told.each i d below));
 }
   where
-    another : (o : Option OpenTxn) → IfSome o (IsOpenIn (6 * start) recs) → IfSome o (IsOpenIn (6 * start) (recs ++ rec ∷ []))
+    in_log : (e : Ending) → (fields_of (end_record e t)).txn ≤ 6 * start + length recs
+    in_log Commit = named
+    in_log Abort = named
+
+    another : (o : Option OpenTxn) → IfSome o (IsOpenIn (6 * start) recs) → IfSome o (IsOpenIn (6 * start) (recs ++ end_record ending t ∷ []))
     another None is = tt
-    another (Some t) is = open-other t (6 * start) recs rec (none t.begin) (nothing t.begin) is
+    another (Some u) is = open-other u (6 * start) recs (end_record ending t) (ends_alone ending t u.begin).0 (ends_alone ending t u.begin).1 is
 
 -- the transaction in a seat began before the end of the log
 pub seat_lies : (s : SeatsState) (c : CacheState) (seat : ℕ) (t : OpenTxn) → AreTied s c → seat < length s.seats → txn_in s seat ≡ Some t → LiesIn c.log t
@@ -203,3 +224,32 @@ busy_below s seat t is = below s.seats seat is
     below [] i e = cc
     below (o ∷ os) zero e = omega arith
     below (o ∷ os) (suc i) e = omega (arith, below os i e)
+
+-- the record by which the transaction in a seat ends is legal
+pub legal_end : (s : SeatsState) (c : CacheState) (seat : ℕ) (ending : Ending) (t : OpenTxn) → AreTied s c → txn_in s seat ≡ Some t → IsLegal (end_record ending t)
+legal_end s c seat ending t tie is =
+    let below = busy_below s seat t is in
+    let lies = seat_lies s c seat t tie below is in
+    let room = room_for_end s c seat tie below (ap is_some is) in
+    ends_legal ending t (omega (arith, lies.1, lies.2, room)) (omega (arith, lies.2, room))
+
+-- the transaction in a busy seat
+pub txn_of : (seats : SeatsState) (seat : ℕ) → IsTrue (is_busy seats seat) → (txn : OpenTxn) × (txn_in seats seat ≡ Some txn)
+txn_of seats seat busy = by (txn_in seats seat) refl busy
+  where
+    by : (o : Option OpenTxn) → txn_in seats seat ≡ o → IsTrue (is_some o) → (txn : OpenTxn) × (txn_in seats seat ≡ Some txn)
+    by None is some = cc
+    by (Some txn) is some = (txn, is)
+
+-- the tie of the seats, through a call that leaves the log as long as it was
+pub tied_same : (s : SeatsState) (c d : CacheState) → d.node ≡ c.node → SameLog c.log d.log → d.log.tail ≡ c.log.tail → AreTied s c → AreTied s d
+tied_same s c d node same tail tie =
+    let ring : d.log.shape.ring ≡ c.log.shape.ring = ap (λ shape. shape.ring) same.shape in
+    let start = same.start in
+    let room = tie.room in
+    record {
+      node = tie.node ∙ sym node;
+      room = omega (arith, ring, start, tail, room);
+      within = all_longer c.log d.log s.seats start (omega (arith, tail)) tie.within;
+      apart = tie.apart;
+    }

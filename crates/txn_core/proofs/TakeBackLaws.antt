@@ -27,8 +27,9 @@ use Rattle.txn_core.specs.Updates.{HasPage}
 use Rattle.txn_core.proofs.CompensationLaws.{own_page}
 use Rattle.compensation.proofs.LogRecords.{at_place}
 use Rattle.txn_core.proofs.SeatLaws.{LiesIn, all_longer, apart_set, owed_set, space_less}
-use Rattle.txn_core.proofs.ToldLaws.{left_is_update, names-push, open-other, open-taken_back}
+use Rattle.txn_core.proofs.ToldLaws.{names-push, open-other, open-taken_back}
 use Rattle.txn_core.proofs.UpdateLaws.{all_seats, apart_at}
+use Rattle.txn_core.proofs.UndoLaws.{newest_update}
 
 -- ---- what the record says
 
@@ -109,15 +110,6 @@ pub newest_first : (us : List ℕ) (u : ℕ) → newest us ≡ Some u → (rest 
 newest_first [] u is = cc
 newest_first (n ∷ us) u is = let same : n ≡ u = cc in (us, ap (λ m. m ∷ us) same)
 
--- it is an update of the transaction
-pub to_undo_own : (t : OpenTxn) (first : ℕ) (recs : List LogRecord) (u : ℕ) (update : LogRecord) → IsOpenIn first recs t → newest (uncompensated t.begin first recs) ≡ Some u → record_at first recs u ≡ Some update → is_update_of t.begin update ≡ true
-to_undo_own t first recs u update was new at =
-    let left = newest_first (uncompensated t.begin first recs) u new in
-    let is = left_is_update t first recs u left.0 was left.1 in
-    let same : Some is.0 ≡ Some update = sym is.1 ∙ at in
-    let one : is.0 ≡ update = cc in
-    ap (is_update_of t.begin) (sym one) ∙ is.2
-
 -- the record before an update lies in the transaction too
 pub before_within : (t : OpenTxn) (first : ℕ) (recs : List LogRecord) (u : ℕ) (update : LogRecord) → IsOpenIn first recs t → record_at first recs u ≡ Some update → is_update_of t.begin update ≡ true → (t.begin ≤ record_before update) × (record_before update < u)
 before_within t first recs u update was at own =
@@ -134,7 +126,7 @@ before_within t first recs u update was at own =
 -- an update that is left is taken back by a record
 pub some_back : (pool : List (Option (List ℕ))) (pages : List CachedPage) (first : ℕ) (recs : List LogRecord) (t : OpenTxn) (v : PageView) → IsOpenIn first recs t → IsToUndo pool pages first recs t v → (rec : LogRecord) × TakesBack pool pages first recs t v rec
 some_back pool pages first recs t v was undo =
-    let rec = back_of_update t (next_behind t.begin first recs undo.update) v.ident undo.update (to_undo_own t first recs undo.number undo.update was undo.newest undo.there) in
+    let rec = back_of_update t (next_behind t.begin first recs undo.update) v.ident undo.update (newest_update t first recs undo.number undo.update was undo.newest undo.there) in
     (rec.0, record { undo = undo; is = rec.1 })
 
 -- the newest update that is left is one

@@ -8,11 +8,11 @@ use Rattle.log_record.specs.declared.record.LogRecord.TheVariants.{Begin}
 use Rattle.log_record.specs.Fields.{fields_of}
 use Rattle.compensation.specs.Left.{is_update_of, next_after, takes_back, uncompensated}
 use Rattle.compensation.specs.Finding.{TellsLeft, left_at, newest, next_behind, next_to_undo, record_at, record_before}
-use Rattle.compensation.proofs.LeftLaws.{here, left-update, left-other, update_not_compensation, compensation_not_update}
+use Rattle.compensation.proofs.LeftLaws.{compensation_not_update, here, left-other, left-update, next_of_compensation, next_of_update, update_not_compensation}
 use Rattle.compensation.proofs.FindingLaws.{TellsLeft-update, TellsLeft-taken_back, TellsLeft-other, found-update, found-compensation, left-taken_back, left_at-begin, left_behind, update_left}
 use Rattle.txn_core.specs.Seats.{OpenTxn}
 use Rattle.txn_core.specs.Told.{IsChained, IsOpenIn, IsRecordOf, NamesEarlier}
-use Rattle.compensation.proofs.LogRecords.{at_place, of_place, below_end, record_at-push, record_at-last, old_or_new, left_at-push, left_at-last, other_txn, next_of_update, next_of_compensation}
+use Rattle.compensation.proofs.LogRecords.{at_place, of_place, below_end, record_at-push, record_at-last, old_or_new, left_at-push, left_at-last, other_txn}
 
 -- ---- no record names a transaction that begins behind it
 

@@ -12,9 +12,10 @@ use Rattle.compensation.specs.Finding.{newest, next_behind, next_to_undo, record
 use Rattle.txn_core.specs.Seats.{OpenTxn, SeatsState, txn_in}
 use Rattle.txn_core.specs.Told.{AreTold, IsOpenIn, IsRecordOf, NamesEarlier}
 use Rattle.txn_core.specs.Undo.{but_for, to_undo}
-use Rattle.compensation.proofs.LogRecords.{at_place, next_of_compensation, next_of_update}
+use Rattle.compensation.proofs.LogRecords.{at_place}
 use Rattle.txn_core.proofs.SeatLaws.{busy_below}
 use Rattle.txn_core.proofs.ToldLaws.{left_is_update, next_before_is, next_is_begin, next_is_none, next_is_update}
+use Rattle.compensation.proofs.LeftLaws.{next_of_compensation, next_of_update}
 
 -- what the option says
 by_next : (t : ℕ) (o : Option ℕ) → but_for t o ≡ None → (o ≡ None) ⊎ (o ≡ Some t)

@@ -3,3 +3,4 @@ pub mod Told
 pub mod Shown
 pub mod Updates
 pub mod Undo
+pub mod Ending

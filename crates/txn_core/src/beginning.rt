@@ -1,3 +1,5 @@
+//! A transaction begins in a free seat.
+
 ghost use Rattle.std.specs.Prelude.{◌≡◌, ◌≢◌, ◌+◌, ◌*◌, ◌≤◌, ℕ, true, false, [], ◌∷◌, ◌++◌, List, Option, Some, None, IsTrue, IfSome, IfErr, OnOk, OnErr, length, map, slice_set};
 ghost use Rattle.sd_base.specs.Disk.{IsOutcome};
 ghost use Rattle.sd_base.specs.Calls.{Keeps, NoNewWriterBut, KeepsForeignBut};

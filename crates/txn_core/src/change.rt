@@ -1,3 +1,5 @@
+//! What a transaction may do to a slot of a page.
+
 use sd_base::Value;
 
 /// A change of a slot of a data page.

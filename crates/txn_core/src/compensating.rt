@@ -1,3 +1,5 @@
+//! The newest update that is left of a transaction is taken back, by a record of its own.
+
 ghost use Rattle.std.specs.Prelude.{◌≡◌, ◌≢◌, ◌+◌, ◌-◌, ◌*◌, ◌^◌, ◌≤◌, ◌<◌, ℕ, true, false, [], ◌∷◌, ◌++◌, List, Option, Some, None, IsTrue, IfOk, IfErr, IfSome, OnOk, OnErr, map, slice_set};
 ghost use Rattle.sd_base.specs.Disk.{IsOutcome};
 ghost use Rattle.sd_base.specs.Calls.{Keeps, KeepsForeign, KeepsForeignBut, Narrows, NoNewWriter, NoNewWriterBut};

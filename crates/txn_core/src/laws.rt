@@ -1,3 +1,5 @@
+//! What a log tells of the open transactions, and goes on telling, stated as laws.
+
 ghost use Rattle.std.specs.Prelude.{◌≡◌, ◌≢◌, ◌+◌, ◌-◌, ◌≤◌, ℕ, true, false, List, Option, [], ◌∷◌, ◌++◌, Some, None, length};
 ghost use Rattle.log_record.specs.declared.record.LogRecord.{LogRecord};
 ghost use Rattle.log_record.specs.declared.record.LogRecord.TheVariants.{Begin};

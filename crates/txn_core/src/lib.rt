@@ -18,5 +18,6 @@ mod undoing;
 mod updating;
 
 pub use change::Change;
+pub use ending::Ending;
 pub use laws::{law_of_compensations, law_of_told_transactions};
 pub use seats::Seats;

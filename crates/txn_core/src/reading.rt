@@ -1,3 +1,5 @@
+//! A log record is read by its number; a text that is no record counts as damage.
+
 ghost use Rattle.std.specs.Prelude.{◌≡◌, ◌*◌, ◌≤◌, ◌<◌, true, false, List, Option, Some, IsTrue, IfOk, IfErr};
 ghost use Rattle.sd_base.specs.Calls.{Keeps, KeepsForeign, Narrows, NoNewWriter};
 ghost use Rattle.sd_base.specs.Faults.{Caused, IsStopOf, OnStop, StaysLive};

@@ -1,3 +1,5 @@
+//! The seats of a node, and how many more records their transactions may need.
+
 ghost use Rattle.std.specs.Prelude.{◌≡◌, ◌≤◌, ◌*◌, ◌^◌, None, IfSome, IfNone, All, option_map, replicate};
 ghost use Rattle.txn_core.specs.Seats.{IsFirstOpen, is_busy, owed, owed_in};
 ghost use Rattle.txn_core.specs.Shown.{shown};

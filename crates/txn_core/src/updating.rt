@@ -1,3 +1,5 @@
+//! A transaction changes a slot of a cached page, and the change is logged.
+
 ghost use Rattle.std.specs.Prelude.{◌<◌, ◌^◌, unwrap_or, ◌≡◌, ◌≢◌, ◌+◌, ◌*◌, ◌%◌, ◌≤◌, ℕ, true, false, [], ◌∷◌, ◌++◌, List, Option, Some, None, IsTrue, IsOk, IfSome, IfErr, OnOk, OnErr, length, map, slice_set};
 ghost use Rattle.sd_base.specs.Disk.{IsOutcome};
 ghost use Rattle.sd_base.specs.Calls.{Keeps, NoNewWriterBut, KeepsForeignBut};

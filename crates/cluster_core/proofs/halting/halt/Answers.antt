@@ -1,8 +1,8 @@
 use Rattle.std.proofs.Common.{length, replicate, ap, ◌∙◌}
 use Rattle.page_owner.specs.declared.owners.Own.TheVariants.{Nobody}
-use Rattle.cluster_core.proofs.Nodes.{length-parked}
 use Rattle.cluster_core.proofs.halting.halt.Goals as goal
 use Rattle.cluster_core.proofs.halting.halt.Goals.{in-Up, in-Idle}
+use Rattle.node_cache.proofs.Parking.{length-parked}
 
 pub returns-clause-owners : goal.returns-clause-owners
 returns-clause-owners g c = elim c.match-replace.branch [

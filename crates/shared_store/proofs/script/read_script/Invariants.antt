@@ -3,14 +3,14 @@ use Rattle.sd_base.specs.Disk.{DiskState}
 use Rattle.shared_store.specs.Devices.{GoesOn, both}
 use Rattle.shared_store.specs.Output.{StaysFlushed}
 use Rattle.shared_store.specs.Serving.{Served}
-use Rattle.shared_store.specs.Store.{CanServe, IsQuiet, KeepsPorts}
+use Rattle.shared_store.specs.Store.{CanServe, IsQuietStore, KeepsPorts}
 use Rattle.shared_store.specs.Transcript.{Beginning}
 use Rattle.shared_store.proofs.script.read_script.Given as goal
 
 abbrev pub invariant-loop-given : goal.invariant-loop-given
 invariant-loop-given g l = record {
   ready : CanServe l.session.store (g.D.Disk.state l.disk) (g.V.Disk.state l.vault);
-  quiet : IsTrue g.D.Disk.told → IsQuiet l.session.store (g.D.Disk.state l.disk).block;
+  quiet : IsTrue g.D.Disk.told → IsQuietStore l.session.store (g.D.Disk.state l.disk).block;
   disk : GoesOn (g.D.Disk.state l.initial.disk) (g.D.Disk.state l.disk);
   vault : GoesOn (g.V.Disk.state l.initial.vault) (g.V.Disk.state l.vault);
   ports : (first : DiskState) → KeepsPorts l.initial.session.store first (g.D.Disk.state l.initial.disk) → KeepsPorts l.session.store first (g.D.Disk.state l.disk);

@@ -1,8 +1,9 @@
 use Rattle.std.proofs.Common.{arith, ap, sym, ◌∙◌, ◌≡◌, true, false}
-use Rattle.txn_core.proofs.CompensationLaws.{data_cached, data_number, is_there, out_of_shown}
+use Rattle.txn_core.proofs.CompensationLaws.{data_cached, data_number, is_there}
 use Rattle.txn_core.proofs.UpdateLaws.{viewed}
 use Rattle.txn_core.proofs.compensating.ident_before.Goals as goal
 use Rattle.txn_core.proofs.compensating.ident_before.Goals.{then-not-has-via-then-not-has, then-not-has-via-else-not-has+then-x-shape}
+use Rattle.node_cache.proofs.ChangedPages.{out_of_shown}
 
 pub returns-then-not-has-clause-there : goal.returns-then-not-has-clause-there
 returns-then-not-has-clause-there c = λ v has low. elim c.then-not-has.branch [

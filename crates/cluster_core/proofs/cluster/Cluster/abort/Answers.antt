@@ -3,10 +3,11 @@ use Rattle.std.proofs.Common.{ap, subst, sym, ◌∙◌}
 use Rattle.record_machine.specs.Commands.{backs, takes_back}
 use Rattle.record_machine.specs.Machine.{Deed, Machine, is_write_in, writes_of}
 use Rattle.record_machine.specs.Parts.{Back, Part, Seal, Unlock, dos}
+use Rattle.record_machine.proofs.Steps.{dos-then}
 use Rattle.cluster_core.specs.Ports.{says_stop}
 use Rattle.cluster_core.specs.Shows.{IsShown}
 use Rattle.cluster_core.proofs.Footprints.{besides_then}
-use Rattle.cluster_core.proofs.ShownHolds.{dos-then, pending_taken, shown_taken}
+use Rattle.cluster_core.proofs.ShownHolds.{pending_taken, shown_taken}
 use Rattle.cluster_core.proofs.Testing.{on_done, passed_on}
 use Rattle.cluster_core.proofs.cluster.Cluster.abort.Goals as goal
 
@@ -22,20 +23,23 @@ pub returns-in_err-take_back_updates-clause-stopped : goal.returns-in_err-take_b
 returns-in_err-take_back_updates-clause-stopped g c = passed_on c.from_residual-in_err-take_back_updates.result _ _ c.from_residual-in_err-take_back_updates.ensures.1 (λ why same told m shown.
     subst (λ r. says_stop r ≡ true) (sym same) (c.in_err-take_back_updates.ensures.stopped told m (c.in_ok-take_updates.ensures.shows told m shown)))
 
+pub end-requires-clause-nothing : goal.end-requires-clause-nothing
+end-requires-clause-nothing g c = λ same. c.in_ok-take_back_updates.ensures.nothing
+
 pub returns-clause-besides : goal.returns-clause-besides
 returns-clause-besides g c = λ told.
     let s = c.args.self.now.shape in
     let a = (g.D.Disk.state c.args.disk.now).block in
     let b = (g.D.Disk.state c.take_back_updates.new.disk).block in
     let first = besides_then s c.take_updates.new.self.shape a (g.D.Disk.state c.take_updates.new.disk).block b c.take_updates.ensures.shape (c.take_updates.ensures.besides told) (c.take_back_updates.ensures.besides told) in
-    besides_then s c.take_back_updates.new.self.shape a b (g.D.Disk.state c.end_abort.new.disk).block (c.take_back_updates.ensures.shape ∙ c.take_updates.ensures.shape) first (c.end_abort.ensures.besides told)
+    besides_then s c.take_back_updates.new.self.shape a b (g.D.Disk.state c.end.new.disk).block (c.take_back_updates.ensures.shape ∙ c.take_updates.ensures.shape) first (c.end.ensures.besides told)
 
 pub returns-clause-shows : goal.returns-clause-shows
-returns-clause-shows g c = on_done c.end_abort.result c.end_abort.ensures.shows (λ shows told m shown.
+returns-clause-shows g c = on_done c.end.result c.end.ensures.shows (λ shows told m shown.
     let t = c.args.t in
     let end : List Part = Seal t ∷ Unlock t ∷ [] in
-    let new = c.end_abort.new.self in
-    let b = (g.D.Disk.state c.end_abort.new.disk).block in
+    let new = c.end.new.self in
+    let b = (g.D.Disk.state c.end.new.disk).block in
     let taken : Machine = dos (takes_back m t) m in
     let first = shown_taken c.take_updates.new.self (g.D.Disk.state c.take_updates.new.disk).block m m t.node.0 (reverse (writes_of m t)) (c.in_ok-take_updates.ensures.shows told m shown) in
     let last = shows told (dos (backs taken t) taken) (c.in_ok-take_back_updates.ensures.shows told taken first) in

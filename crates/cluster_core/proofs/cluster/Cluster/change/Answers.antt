@@ -16,10 +16,11 @@ use Rattle.cluster_core.proofs.Logging.{can_logged}
 use Rattle.cluster_core.proofs.Nodes.{out_at_work}
 use Rattle.cluster_core.proofs.PageChanged.{cluster_changed}
 use Rattle.cluster_core.proofs.ShownLogged.{length_shown}
-use Rattle.cluster_core.proofs.ShownUpdate.{busy_txn, means_updated, up_updated}
+use Rattle.cluster_core.proofs.ShownUpdate.{means_updated, up_updated}
 use Rattle.cluster_core.proofs.Fetching.{never}
 use Rattle.cluster_core.proofs.Footprints.{besides_still, log_besides, not_full}
 use Rattle.cluster_core.proofs.InMemory.{owes_few}
+use Rattle.txn_core.proofs.SeatLaws.{txn_of}
 use Rattle.cluster_core.proofs.cluster.Cluster.change.Given as given
 use Rattle.cluster_core.proofs.cluster.Cluster.change.Goals as goal
 
@@ -29,8 +30,8 @@ page_of g c =
     subst (λ n. OnUp n (λ d seats. (v : PageView) × HasPage c.self.inside.shared.pool d.pages c.args.x v × (v.ident < 2 ^ 63) × FitsSlotOf v c.args.slot c.args.what.now)) c.in-Up.is
     (subst (λ s. OnUp s.node (λ d seats. (v : PageView) × HasPage s.pool d.pages c.args.x v × (v.ident < 2 ^ 63) × FitsSlotOf v c.args.slot c.args.what.now)) (sym c.self.view_is) c.requires.page)
 
-txn_of : (g : given.Over) (c : goal.In-Ok g) → (u : OpenTxn) × (txn_in c.in-Up.seats c.args.t.seat ≡ Some u)
-txn_of g c = busy_txn c.in-Up.seats c.args.t.seat (subst (λ n. OnUp n (λ d seats. IsTrue (is_busy seats c.args.t.seat))) c.in-Up.is (subst (λ s. OnUp s.node (λ d seats. IsTrue (is_busy seats c.args.t.seat))) (sym c.self.view_is) c.requires.busy))
+the_txn : (g : given.Over) (c : goal.In-Ok g) → (u : OpenTxn) × (txn_in c.in-Up.seats c.args.t.seat ≡ Some u)
+the_txn g c = txn_of c.in-Up.seats c.args.t.seat (subst (λ n. OnUp n (λ d seats. IsTrue (is_busy seats c.args.t.seat))) c.in-Up.is (subst (λ s. OnUp s.node (λ d seats. IsTrue (is_busy seats c.args.t.seat))) (sym c.self.view_is) c.requires.busy))
 
 pub change-done-requires-clause-out : goal.change-done-requires-clause-out
 change-done-requires-clause-out g c =
@@ -41,7 +42,7 @@ pub invariant_of-self : goal.invariant_of-self
 invariant_of-self g c =
     let is : IsCluster c.self.inside.shape c.self.inside.shared.pool c.self.inside.shared.owners (Up c.in-Up.cache c.in-Up.seats) = subst (IsCluster c.self.inside.shape c.self.inside.shared.pool c.self.inside.shared.owners) c.in-Up.is c.self.invariant in
     let has = (page_of g c).1 in
-    let txn = txn_of g c in
+    let txn = the_txn g c in
     cluster_changed c.self.inside.shape c.self.inside.shared.pool c.change-done.new.pool c.self.inside.shared.owners c.in-Up.cache c.change-done.new.c c.in-Up.seats c.change-done.new.self c.args.x c.in-Up.cache.log.tail is c.change-done.ensures.cache_node c.in-Ok.ensures.pages
     has.page has.there (c.change-done.ensures.frames has.page has.there) (c.change-done.ensures.shown c.self.inside.shape is.is.shown) c.change-done.ensures.same c.in-Ok.ensures.log_tie c.in-Ok.ensures.tie
     (ap length (c.in-Ok.ensures.seats txn.0 txn.1) ∙ length-set c.in-Up.seats.seats c.args.t.seat _) c.law_of_pages.ensures
@@ -60,7 +61,7 @@ returns-in-Ok-clause-shows g c = λ told m w here page slot lock value was.
     let shown = subst (λ n. ShowsNode c.self.inside.shape c.self.inside.shared.pool n (g.D.Disk.state c.args.disk.now).block p m) c.in-Up.is view.node in
     let place = subst (λ s. (s.shape.maps ≤ c.args.x.0) × (c.args.x.0 < page_count s.shape)) (sym c.self.view_is) c.requires.place in
     let old = page_of g c in
-    let txn = txn_of g c in
+    let txn = the_txn g c in
     let same : old.0 ≡ p.pages c.args.x.0 = data_shown c.self.inside.shape p c.self.inside.shared.pool c.in-Up.cache.pages c.args.x old.0 (living c.self.inside.shape p m view.shape view.means.pages) place.0 place.1 shown.1.cached old.1 in
     let has : HasPage c.self.inside.shared.pool c.in-Up.cache.pages c.args.x (p.pages c.args.x.0) = subst (HasPage c.self.inside.shared.pool c.in-Up.cache.pages c.args.x) same old.1 in
     let count = has.shows.text.image.slots in

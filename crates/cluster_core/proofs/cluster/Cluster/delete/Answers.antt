@@ -3,7 +3,7 @@ use Rattle.std.proofs.Common.{ap, subst, sym, ◌∙◌}
 use Rattle.record_locks.specs.declared.mode.Mode.TheVariants as locks
 use Rattle.record_locks.specs.Answer.{lock_answer, may_take}
 use Rattle.record_locks.specs.Held.{taken}
-use Rattle.record_machine.specs.Commands.{Stayed, no_deletion, parts, takes, takes_both}
+use Rattle.record_machine.specs.Commands.{no_deletion, parts, takes, takes_both}
 use Rattle.script_text.specs.declared.command.Command.TheVariants as asks
 use Rattle.record_machine.specs.Machine.{Machine, home, seen}
 use Rattle.record_machine.specs.Parts.{Lock, dos}
@@ -51,7 +51,7 @@ returns-in_ok-write_there-in-Some-Some-clause-step g c = λ told runs m shown.
     let S : Machine → Type 0 = IsShown c.write_there.new.self (g.D.Disk.state c.write_there.new.disk).block in
     let wrote = c.write_there.ensures.step told runs_on (dos (takes_both m 1 c.args.key.0 (home m c.args.key.0)) m) (takes_home m 1 c.args.key.0 c.args.key.0 (home m c.args.key.0) ∙ here) (c.in_ok-home.ensures.shows told m shown) in
     let whole = deletes_there m c.args.t c.args.key c.in-Some-Some.x.0 c.in-Some-Some.field-0-1 c.write_there.result S c.requires.node here held wrote in
-    subst (λ v. AnswersWith (is_some v) (no_deletion m c.args.t c.args.key.0) (Ok true) (S (dos (parts m (asks.Del c.args.t c.args.key)) m)) (Stayed m (takes m (asks.Del c.args.t c.args.key)) S)) (sym held)
+    subst (λ v. AnswersWith (is_some v) (no_deletion m c.args.t c.args.key.0) (Ok true) (S (dos (parts m (asks.Del c.args.t c.args.key)) m)) (S (dos (takes m (asks.Del c.args.t c.args.key)) m))) (sym held)
     (answers_ok true (no_deletion m c.args.t c.args.key.0) c.write_there.result _ _ whole done)
 
 pub returns-in_default-clause-step : goal.returns-in_default-clause-step

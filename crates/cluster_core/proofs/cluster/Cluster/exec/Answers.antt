@@ -19,7 +19,7 @@ use Rattle.private_log.specs.Reading.{contents}
 use Rattle.cluster_core.specs.Answering.{reply_deleted, reply_flushed, reply_found, reply_of}
 use Rattle.cluster_core.specs.Causes.{IsAbortFault, IsAnswer, IsFaultFor, IsFoundIn, IsToldIn, IsToldOfPages, IsWriteReason}
 use Rattle.cluster_core.specs.Aborts.{IsToldOfAbort}
-use Rattle.cluster_core.specs.FaultReply.{IsLogReply, IsToldDamaged}
+use Rattle.cluster_core.specs.LogReply.{IsLogReply, IsToldDamaged}
 use Rattle.cluster_core.specs.Ports.{IsCoveredBut}
 use Rattle.cluster_core.proofs.Causing.{all_kept, damaged_then, deleted_or, fine_or, flushed_or, found_or, idle_before, known_cause, stop_told, told_deleted, told_flushed, told_found, told_of, told_state}
 use Rattle.txn_core.specs.declared.change.Change.TheVariants.{Append, Delete, Put}
@@ -72,12 +72,12 @@ returns-in-Put-clause-step g c = λ told runs m shown.
 
 pub returns-in-Commit-clause-step : goal.returns-in-Commit-clause-step
 returns-in-Commit-clause-step g c = λ told runs m shown.
-    let S : Machine → Type 0 = IsShown c.commit.new.self (g.D.Disk.state c.commit.new.disk).block in
+    let S : Machine → Type 0 = IsShown c.end.new.self (g.D.Disk.state c.end.new.disk).block in
     subst (λ r. Step m c.args.command.now r S) (sym c.reply_of-in-Commit.ensures)
     (commit_step c.args.self.now (g.D.Disk.state c.args.disk.now).block m c.law_of_clusters.ensures shown c.args.command.now c.check.result S c.requires.range c.check.ensures c.in_default.is
-    c.in-Commit.t c.commit.result c.in-Commit.is (subst (λ r. says_stop r ≡ false) c.reply_of-in-Commit.ensures runs)
-    c.commit.ensures.stopped
-    (on_done c.commit.result c.commit.ensures.shows (λ shows. shows told m shown)))
+    c.in-Commit.t c.end.result c.in-Commit.is (subst (λ r. says_stop r ≡ false) c.reply_of-in-Commit.ensures runs)
+    c.end.ensures.stopped
+    (on_done c.end.result c.end.ensures.shows (λ shows. shows told m shown)))
 
 -- ---- every answer has its cause
 
@@ -155,16 +155,16 @@ returns-in-Put-clause-told g c = λ told none.
 
 pub returns-in-Commit-clause-answer : goal.returns-in-Commit-clause-answer
 returns-in-Commit-clause-answer g c = λ none.
-    subst (IsAnswer c.commit.new.self c.args.command.now) (sym c.reply_of-in-Commit.ensures)
-    (subst (λ k. IsAnswer c.commit.new.self k (reply_of c.commit.result)) (sym c.in-Commit.is) (fine_or (λ why. says_stop why ≡ true) c.commit.result c.commit.ensures.stopped))
+    subst (IsAnswer c.end.new.self c.args.command.now) (sym c.reply_of-in-Commit.ensures)
+    (subst (λ k. IsAnswer c.end.new.self k (reply_of c.end.result)) (sym c.in-Commit.is) (fine_or (λ why. says_stop why ≡ true) c.end.result c.end.ensures.stopped))
 
 pub returns-in-Commit-clause-told : goal.returns-in-Commit-clause-told
 returns-in-Commit-clause-told g c = λ told none.
     let s = c.args.self.now.shape in
-    let b = contents (g.D.Disk.state c.commit.new.disk).block in
+    let b = contents (g.D.Disk.state c.end.new.disk).block in
     subst (IsToldIn s b c.args.command.now) (sym c.reply_of-in-Commit.ensures)
-    (subst (λ k. IsToldIn s b k (reply_of c.commit.result)) (sym c.in-Commit.is)
-    (told_of (IsToldOfPages s b) c.commit.result tt (error_then c.commit.result (λ why. says_stop why ≡ true) (IsToldOfPages s b) c.commit.ensures.stopped (stop_told s b))))
+    (subst (λ k. IsToldIn s b k (reply_of c.end.result)) (sym c.in-Commit.is)
+    (told_of (IsToldOfPages s b) c.end.result tt (error_then c.end.result (λ why. says_stop why ≡ true) (IsToldOfPages s b) c.end.ensures.stopped (stop_told s b))))
 
 -- ---- append
 
@@ -312,4 +312,4 @@ returns-in-Del-clause-taken g c = λ told none done key names m shown.
 
 pub returns-in-Commit-clause-commit_covered : goal.returns-in-Commit-clause-commit_covered
 returns-in-Commit-clause-commit_covered g c = λ told t asked.
-    kept_covered c.args.self.now.shape (g.D.Disk.state c.args.disk.now).block (g.D.Disk.state c.commit.new.disk).block (λ k. g.met.D.Disk.lawful c.args.disk.now k told) (λ k. g.met.D.Disk.lawful c.commit.new.disk k told) (c.commit.ensures.ring told)
+    kept_covered c.args.self.now.shape (g.D.Disk.state c.args.disk.now).block (g.D.Disk.state c.end.new.disk).block (λ k. g.met.D.Disk.lawful c.args.disk.now k told) (λ k. g.met.D.Disk.lawful c.end.new.disk k told) (c.end.ensures.ring told)

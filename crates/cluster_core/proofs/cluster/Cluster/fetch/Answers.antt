@@ -22,13 +22,13 @@ use Rattle.cluster_core.specs.Ports.{IsCoveredBut, IsQuiet, IsServed, OnUp, repl
 use Rattle.cluster_core.proofs.Fetching.{IsLeft, can_halt, cluster_fetched, covered_still, is_one, leaving_whole, left_arrived, left_broken, left_hit, never, stop_says, unless}
 use Rattle.cluster_core.proofs.Nodes.{out_at_work}
 use Rattle.space_map.specs.Image.{MapImage}
-use Rattle.node_cache.specs.Room.{map_of}
 use Rattle.cluster_core.specs.Changes.{HasMap, ShowsMap}
 use Rattle.cluster_core.specs.Footprint.{NarrowsBesides}
 use Rattle.cluster_core.proofs.MapStays.{map_kept}
 use Rattle.cluster_core.proofs.RoomMade.{CacheRoom, made_room, room_arrived, room_hit}
 use Rattle.node_cache.specs.Cache.{CacheState}
 use Rattle.sd_base.specs.Disk.{DiskState}
+use Rattle.sd_base.specs.Places.{map_of_data}
 use Rattle.cluster_core.proofs.Footprints.{besides_still, pages_besides, same_cluster}
 use Rattle.cluster_core.proofs.cluster.Cluster.fetch.Given as given
 use Rattle.cluster_core.proofs.cluster.Cluster.fetch.Goals as goal
@@ -148,15 +148,15 @@ pub returns-in-Ok-clause-map : goal.returns-in-Ok-clause-map
 returns-in-Ok-clause-map g c = λ far image was.
     let is : IsCluster c.self.inside.shape c.self.inside.shared.pool c.self.inside.shared.owners (Up c.in-Up.cache c.in-Up._seats) = subst (IsCluster c.self.inside.shape c.self.inside.shared.pool c.self.inside.shared.owners) c.in-Up.is c.self.invariant in
     let far_in : c.self.inside.shape.maps ≤ c.args.x.0 = subst (λ v. v.shape.maps ≤ c.args.x.0) (sym c.self.view_is) far in
-    let view = subst (λ v. ShowsMap v (map_of v.shape c.args.x) image) (sym c.self.view_is) was in
-    let has = subst (λ n. OnUp n (λ d seats. HasMap c.self.inside.shared.pool d.pages (map_of c.self.inside.shape c.args.x) image)) c.in-Up.is view in
-    subst (λ v. HasMap c.fetch-done.new.pool c.fetch-done.new.self.pages (map_of v.shape c.args.x) image) c.self.view_is (then is far_in image has (is_cached c.args.x c.in-Up.cache) refl)
+    let view = subst (λ v. ShowsMap v (map_of_data v.shape c.args.x) image) (sym c.self.view_is) was in
+    let has = subst (λ n. OnUp n (λ d seats. HasMap c.self.inside.shared.pool d.pages (map_of_data c.self.inside.shape c.args.x) image)) c.in-Up.is view in
+    subst (λ v. HasMap c.fetch-done.new.pool c.fetch-done.new.self.pages (map_of_data v.shape c.args.x) image) c.self.view_is (then is far_in image has (is_cached c.args.x c.in-Up.cache) refl)
   where
-    then : IsCluster c.self.inside.shape c.self.inside.shared.pool c.self.inside.shared.owners (Up c.in-Up.cache c.in-Up._seats) → c.self.inside.shape.maps ≤ c.args.x.0 → (image : MapImage) → HasMap c.self.inside.shared.pool c.in-Up.cache.pages (map_of c.self.inside.shape c.args.x) image
-        → (b : Bool) → is_cached c.args.x c.in-Up.cache ≡ b → HasMap c.fetch-done.new.pool c.fetch-done.new.self.pages (map_of c.self.inside.shape c.args.x) image
+    then : IsCluster c.self.inside.shape c.self.inside.shared.pool c.self.inside.shared.owners (Up c.in-Up.cache c.in-Up._seats) → c.self.inside.shape.maps ≤ c.args.x.0 → (image : MapImage) → HasMap c.self.inside.shared.pool c.in-Up.cache.pages (map_of_data c.self.inside.shape c.args.x) image
+        → (b : Bool) → is_cached c.args.x c.in-Up.cache ≡ b → HasMap c.fetch-done.new.pool c.fetch-done.new.self.pages (map_of_data c.self.inside.shape c.args.x) image
     then is far image has true hit =
         let same = c.fetch-done.ensures.hit hit in
-        subst (λ l. HasMap l c.fetch-done.new.self.pages (map_of c.self.inside.shape c.args.x) image) (sym same.2) (subst (λ d. HasMap c.self.inside.shared.pool d.pages (map_of c.self.inside.shape c.args.x) image) (sym same.1) has)
+        subst (λ l. HasMap l c.fetch-done.new.self.pages (map_of_data c.self.inside.shape c.args.x) image) (sym same.2) (subst (λ d. HasMap c.self.inside.shared.pool d.pages (map_of_data c.self.inside.shape c.args.x) image) (sym same.1) has)
     then is far image has false new =
         map_kept c.self.inside.shape c.args.x c.args.e c.in-Up.cache c.fetch-done.new.self c.self.inside.shared.pool c.fetch-done.new.pool image is.is.cache (out_at_work c.self.inside.shape c.self.inside.shared.pool c.self.inside.shared.owners c.in-Up.cache c.in-Up._seats is.is) (c.in-Ok.ensures.arrived new) far has
 

@@ -3,11 +3,11 @@ use Rattle.cluster_core.specs.declared.node.Node.TheVariants.{Up}
 use Rattle.cluster_core.specs.Cluster.{IsCluster}
 use Rattle.cluster_core.specs.Shows.{ShowsNode, ShowsStore}
 use Rattle.cluster_core.proofs.Living.{living}
-use Rattle.cluster_core.proofs.Fetching.{tied_same}
 use Rattle.cluster_core.proofs.Flushed.{up_forced}
 use Rattle.cluster_core.specs.Footprint.{NarrowsBesides}
 use Rattle.cluster_core.proofs.Footprints.{besides_still, tail_besides}
 use Rattle.cluster_core.proofs.Logging.{can_logged, cluster_logged}
+use Rattle.txn_core.proofs.SeatLaws.{tied_same}
 use Rattle.cluster_core.proofs.cluster.Cluster.force.Goals as goal
 
 pub invariant_of-self : goal.invariant_of-self

@@ -6,8 +6,9 @@ use Rattle.private_log.specs.Log.{IsLogOn, region}
 use Rattle.private_log.specs.Reading.{contents}
 use Rattle.private_log.specs.Spread.{IsStill}
 use Rattle.record_machine.proofs.LockSteps.{means_started}
+use Rattle.store_format.specs.FaultReply.{fault_reply}
 use Rattle.cluster_core.specs.declared.node.Node.TheVariants.{Idle}
-use Rattle.cluster_core.specs.FaultReply.{IsToldDamaged, fault_reply}
+use Rattle.cluster_core.specs.LogReply.{IsToldDamaged}
 use Rattle.cluster_core.specs.Shows.{ShowsIdle, ShowsNode, ShowsStore}
 use Rattle.cluster_core.proofs.Started.{asks_nothing, node_started, out_of_use, told_damaged, up_started}
 use Rattle.cluster_core.proofs.cluster.Cluster.start.Goals as goal

@@ -22,7 +22,7 @@ use Rattle.cluster_core.proofs.Footprints.{besides_still, log_besides}
 use Rattle.cluster_core.proofs.Logging.{can_logged}
 use Rattle.cluster_core.proofs.PageChanged.{cluster_changed}
 use Rattle.cluster_core.proofs.ShownBack.{back, back_cached, means_taken_back, up_taken_back}
-use Rattle.cluster_core.proofs.ShownUpdate.{busy_txn}
+use Rattle.txn_core.proofs.SeatLaws.{txn_of}
 use Rattle.cluster_core.proofs.cluster.Cluster.take_back_one.Given as given
 use Rattle.cluster_core.proofs.cluster.Cluster.take_back_one.Goals as goal
 
@@ -32,8 +32,8 @@ take_back_one-done-requires-clause-shown g c =
     subst (λ s. AreShown s c.self.inside.shared.pool c.in-Up.cache) (sym is.is.store.shape) is.is.shown
 
 -- the transaction, and the page that was changed
-txn_of : (g : given.Over) (c : goal.In-Ok g) → (u : OpenTxn) × (txn_in c.in-Up.seats c.args.t.seat ≡ Some u)
-txn_of g c = busy_txn c.in-Up.seats c.args.t.seat (subst (λ n. OnUp n (λ d seats. IsTrue (is_busy seats c.args.t.seat))) c.in-Up.is (subst (λ s. OnUp s.node (λ d seats. IsTrue (is_busy seats c.args.t.seat))) (sym c.self.view_is) c.requires.busy))
+the_txn : (g : given.Over) (c : goal.In-Ok g) → (u : OpenTxn) × (txn_in c.in-Up.seats c.args.t.seat ≡ Some u)
+the_txn g c = txn_of c.in-Up.seats c.args.t.seat (subst (λ n. OnUp n (λ d seats. IsTrue (is_busy seats c.args.t.seat))) c.in-Up.is (subst (λ s. OnUp s.node (λ d seats. IsTrue (is_busy seats c.args.t.seat))) (sym c.self.view_is) c.requires.busy))
 
 the_page : (o : Option CachedPage) → is_some o ≡ true → (q : CachedPage) × (o ≡ Some q)
 the_page None some = cc
@@ -42,7 +42,7 @@ the_page (Some q) some = (q, refl)
 pub invariant_of-self : goal.invariant_of-self
 invariant_of-self g c =
     let is : IsCluster c.self.inside.shape c.self.inside.shared.pool c.self.inside.shared.owners (Up c.in-Up.cache c.in-Up.seats) = subst (IsCluster c.self.inside.shape c.self.inside.shared.pool c.self.inside.shared.owners) c.in-Up.is c.self.invariant in
-    let txn = txn_of g c in
+    let txn = the_txn g c in
     let seats = c.in-Ok.ensures.seats txn.0 txn.1 in
     let changes = c.in-Ok.ensures.page in
     let page = the_page (page_at changes.0 c.in-Up.cache.pages) changes.1.cached in
@@ -60,7 +60,7 @@ now_in g c u busy =
     (seats.0, ap (λ os. slice_index_or os c.args.t.seat None) seats.1 ∙ get_or-set_same c.in-Up.seats.seats c.args.t.seat _ None (omega (arith, eight, low)))
 
 pub returns-in-Ok-clause-busy : goal.returns-in-Ok-clause-busy
-returns-in-Ok-clause-busy g c = let txn = txn_of g c in ap is_some (now_in g c txn.0 txn.1).1
+returns-in-Ok-clause-busy g c = let txn = the_txn g c in ap is_some (now_in g c txn.0 txn.1).1
 
 pub returns-in-Ok-clause-fewer : goal.returns-in-Ok-clause-fewer
 returns-in-Ok-clause-fewer g c =
@@ -96,7 +96,7 @@ returns-clause-stopped g c = λ told m d w newest write cached shown_by.
     let up = subst (λ n. ShowsNode inside.shape inside.shared.pool n (g.D.Disk.state c.args.disk.now).block p m) c.in-Up.is view.node in
     let hit : IsTrue (is_cached x c.in-Up.cache) = subst (λ n. OnUp n (λ d seats. IsTrue (is_cached x d))) c.in-Up.is (subst (λ v. OnUp v.node (λ d seats. IsTrue (is_cached x d))) (sym c.self.view_is) cached) in
     let has = back_cached inside.shape inside.shared.pool c.in-Up.cache c.in-Up.seats (g.D.Disk.state c.args.disk.now).block p m c.args.t d w view.shape newest write view.means up.1 is.is.shown hit in
-    let txn = busy_txn c.in-Up.seats c.args.t.seat (subst (λ n. OnUp n (λ d seats. IsTrue (is_busy seats c.args.t.seat))) c.in-Up.is (subst (λ s. OnUp s.node (λ d seats. IsTrue (is_busy seats c.args.t.seat))) (sym c.self.view_is) c.requires.busy)) in
+    let txn = txn_of c.in-Up.seats c.args.t.seat (subst (λ n. OnUp n (λ d seats. IsTrue (is_busy seats c.args.t.seat))) c.in-Up.is (subst (λ s. OnUp s.node (λ d seats. IsTrue (is_busy seats c.args.t.seat))) (sym c.self.view_is) c.requires.busy)) in
     let it = back inside.shape inside.shared.pool inside.shared.pool inside.shared.owners c.in-Up.cache c.in-Up.cache c.in-Up.seats c.in-Up.seats (g.D.Disk.state c.args.disk.now).block (g.D.Disk.state c.args.disk.now).block p m c.args.t d w txn.0 x is.is view.shape c.requires.node c.requires.seat txn.1 newest write refl view.means up.1 has in
     subst (λ r. says_stop r ≡ true) (sym c.give_up.ensures.says) (stop_says c.in-Up.cache.node.0 (first_page inside.shape) c.in-Err.fault (c.in-Err.ensures.there told (p.live 1) txn.0 (p.pages w.page) txn.1 up.1.records up.1.told it.1.undo))
 
@@ -110,7 +110,7 @@ returns-in-Ok-clause-shows g c = λ told m d w newest write cached shown_by.
     let up = subst (λ n. ShowsNode inside.shape inside.shared.pool n (g.D.Disk.state c.args.disk.now).block p m) c.in-Up.is view.node in
     let hit : IsTrue (is_cached x c.in-Up.cache) = subst (λ n. OnUp n (λ d seats. IsTrue (is_cached x d))) c.in-Up.is (subst (λ v. OnUp v.node (λ d seats. IsTrue (is_cached x d))) (sym c.self.view_is) cached) in
     let has = back_cached inside.shape inside.shared.pool c.in-Up.cache c.in-Up.seats (g.D.Disk.state c.args.disk.now).block p m c.args.t d w view.shape newest write view.means up.1 is.is.shown hit in
-    let txn = txn_of g c in
+    let txn = the_txn g c in
     let done = c.take_back_one-done in
     let before = (g.D.Disk.state c.args.disk.now).block in
     let after = (g.D.Disk.state done.new.disk).block in

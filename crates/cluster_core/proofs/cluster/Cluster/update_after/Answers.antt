@@ -13,7 +13,7 @@ use Rattle.cluster_core.specs.Shows.{ShowsNode, ShowsStore}
 use Rattle.cluster_core.proofs.Fetching.{can_halt, is_one, never, stop_says}
 use Rattle.cluster_core.proofs.LeftWrites.{found_first, found_number, found_range, left_after, numbers_back}
 use Rattle.cluster_core.proofs.ShownHolds.{no_err, ok_then}
-use Rattle.cluster_core.proofs.ShownUpdate.{busy_txn}
+use Rattle.txn_core.proofs.SeatLaws.{txn_of}
 use Rattle.cluster_core.proofs.cluster.Cluster.update_after.Goals as goal
 
 pub returns-in-Ok-clause-stopped : goal.returns-in-Ok-clause-stopped
@@ -23,7 +23,7 @@ returns-in-Ok-clause-stopped g c = no_err c.of_store.result _ (λ why is told m 
     let b = (g.D.Disk.state c.args.disk.now).block in
     let p = shown.0 in
     let busy : IsTrue (is_busy c.in-Up.seats c.args.t.seat) = subst (λ n. OnUp n (λ d seats. IsTrue (is_busy seats c.args.t.seat))) c.in-Up.is (subst (λ v. OnUp v.node (λ d seats. IsTrue (is_busy seats c.args.t.seat))) (sym c.self.view_is) c.requires.busy) in
-    let u = busy_txn c.in-Up.seats c.args.t.seat busy in
+    let u = txn_of c.in-Up.seats c.args.t.seat busy in
     let view = subst (λ v. ShowsStore v b p m) (sym c.self.view_is) shown.1 in
     let was = (subst (λ n. ShowsNode s frames n b p m) c.in-Up.is view.node).1 in
     let low : c.args.t.seat < 8 = (let at = c.requires.seat in omega (arith, at)) in
@@ -38,7 +38,7 @@ returns-in-Ok-clause-next g c = ok_then c.of_store.result _ _ c.of_store.ensures
     let b = (g.D.Disk.state c.args.disk.now).block in
     let p = shown.0 in
     let busy : IsTrue (is_busy c.in-Up.seats c.args.t.seat) = subst (λ n. OnUp n (λ d seats. IsTrue (is_busy seats c.args.t.seat))) c.in-Up.is (subst (λ v. OnUp v.node (λ d seats. IsTrue (is_busy seats c.args.t.seat))) (sym c.self.view_is) c.requires.busy) in
-    let u = busy_txn c.in-Up.seats c.args.t.seat busy in
+    let u = txn_of c.in-Up.seats c.args.t.seat busy in
     let view = subst (λ v. ShowsStore v b p m) (sym c.self.view_is) shown.1 in
     let was = (subst (λ n. ShowsNode s frames n b p m) c.in-Up.is view.node).1 in
     let low : c.args.t.seat < 8 = (let at = c.requires.seat in omega (arith, at)) in
@@ -53,7 +53,7 @@ returns-in-Ok-clause-newest g c = λ none. ok_then c.of_store.result _ _ c.of_st
     let b = (g.D.Disk.state c.args.disk.now).block in
     let p = shown.0 in
     let busy : IsTrue (is_busy c.in-Up.seats c.args.t.seat) = subst (λ n. OnUp n (λ d seats. IsTrue (is_busy seats c.args.t.seat))) c.in-Up.is (subst (λ v. OnUp v.node (λ d seats. IsTrue (is_busy seats c.args.t.seat))) (sym c.self.view_is) c.requires.busy) in
-    let u = busy_txn c.in-Up.seats c.args.t.seat busy in
+    let u = txn_of c.in-Up.seats c.args.t.seat busy in
     let view = subst (λ v. ShowsStore v b p m) (sym c.self.view_is) shown.1 in
     let was = (subst (λ n. ShowsNode s frames n b p m) c.in-Up.is view.node).1 in
     let low : c.args.t.seat < 8 = (let at = c.requires.seat in omega (arith, at)) in
@@ -80,7 +80,7 @@ returns-clause-stopped g c = λ told m shown some.
     let b = (g.D.Disk.state c.args.disk.now).block in
     let p = shown.0 in
     let busy : IsTrue (is_busy c.in-Up.seats c.args.t.seat) = subst (λ n. OnUp n (λ d seats. IsTrue (is_busy seats c.args.t.seat))) c.in-Up.is (subst (λ v. OnUp v.node (λ d seats. IsTrue (is_busy seats c.args.t.seat))) (sym c.self.view_is) c.requires.busy) in
-    let u = busy_txn c.in-Up.seats c.args.t.seat busy in
+    let u = txn_of c.in-Up.seats c.args.t.seat busy in
     let view = subst (λ v. ShowsStore v b p m) (sym c.self.view_is) shown.1 in
     let was = (subst (λ n. ShowsNode s frames n b p m) c.in-Up.is view.node).1 in
     let low : c.args.t.seat < 8 = (let at = c.requires.seat in omega (arith, at)) in

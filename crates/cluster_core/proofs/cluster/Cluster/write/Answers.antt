@@ -24,7 +24,7 @@ returns-clause-shows g c = on_done c.change.result c.change.ensures.shows (λ sh
     let was = subst (λ v. IsShown v b m) (sym c.self.view_is) shown in
     let more = shown_locked (record { shape = inside.shape; pool = inside.shared.pool; owners = inside.shared.owners; locks = inside.shared.locks; node = inside.node; reopening = inside.shared.reopening }) b m key t locks.Write free was in
     let now = subst (λ held. IsShown (record { shape = inside.shape; pool = inside.shared.pool; owners = inside.shared.owners; locks = held; node = inside.node; reopening = inside.shared.reopening }) b (one (Lock key t locks.Write) m)) (sym c.take.ensures) more in
-    shows told (one (Lock key t locks.Write) m) (record { key = key.0; page = c.args.x.0; value = value_after c.args.what.now (seen m t key.0) }) here refl (sym c.slot_of.ensures.slot) (mode_of-taken m.locks key t locks.Write ∙ ap Some (raised_write (mode_of m.locks key t))) refl now)
+    shows told (one (Lock key t locks.Write) m) (record { key = key.0; page = c.args.x.0; value = value_after c.args.what.now (seen m t key.0) }) here refl (sym c.slot.ensures.slot) (mode_of-taken m.locks key t locks.Write ∙ ap Some (raised_write (mode_of m.locks key t))) refl now)
 
 pub returns-clause-memory : goal.returns-clause-memory
 returns-clause-memory g c = λ room. c.change.ensures.memory (subst (λ v. FillsNoBlock v 1) (sym c.self.view_is) room)

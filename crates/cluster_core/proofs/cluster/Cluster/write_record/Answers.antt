@@ -3,15 +3,14 @@ use Rattle.std.proofs.Common.{ap, subst, sym, ◌∙◌}
 use Rattle.std.specs.List.{position}
 use Rattle.space_map.specs.Entry.{is_free}
 use Rattle.record_machine.specs.Commands.{takes_both}
-use Rattle.record_machine.specs.Machine.{home, map_of}
-use Rattle.node_cache.specs.Room as room
+use Rattle.record_machine.specs.Machine.{home}
 use Rattle.sd_base.specs.Shape.{page_count}
 use Rattle.sd_base.specs.declared.names.PageNo.{PageNo}
+use Rattle.sd_base.specs.Places.{map_of_data, map_of_key, page_of_place}
 use Rattle.record_machine.specs.Parts.{dos}
 use Rattle.cluster_core.specs.Answering.{reply_of}
 use Rattle.cluster_core.specs.Changes.{ShowsMap}
 use Rattle.cluster_core.specs.Footprint.{CanWriteAt, FillsNoBlock, HasCached, HasTaken, MadeRoom}
-use Rattle.cluster_core.specs.Places.{map_number, page_number}
 use Rattle.cluster_core.specs.Ports.{says_stop}
 use Rattle.cluster_core.specs.Shows.{IsShown}
 use Rattle.cluster_core.proofs.WriteTests.{changes_anew, changes_there, the_error}
@@ -27,7 +26,7 @@ use Rattle.cluster_core.proofs.Steps.{error_then}
 use Rattle.cluster_core.proofs.Testing.{on_done, passed_on}
 use Rattle.cluster_core.proofs.FoundRows.{both_untaken}
 use Rattle.cluster_core.proofs.RoomMade.{room_both, target_none, target_some}
-use Rattle.cluster_core.proofs.ShownImages.{map_number_is}
+use Rattle.cluster_core.proofs.ShownImages.{map_of_key_is}
 use Rattle.cluster_core.proofs.cluster.Cluster.write_record.Given as given
 use Rattle.cluster_core.proofs.cluster.Cluster.write_record.Goals as goal
 
@@ -58,27 +57,27 @@ returns-in-None-clause-step g c = λ told runs m shown.
 
 pub returns-in_err-x-clause-memory : goal.returns-in_err-x-clause-memory
 returns-in_err-x-clause-memory g c = λ hand.
-    let at = map_number c.args.self.now.shape c.args.key.0 in
+    let at = map_of_key c.args.self.now.shape c.args.key.0 in
     let hit = c.take_group.ensures.hit hand.there.image hand.there.map (places_cached c.args.self.now at 1 _ hand.there.used) in
     absurd (never c.take_group.result _ hit.0 c.in_err-x.was)
 
 pub returns-in-Some-clause-memory : goal.returns-in-Some-clause-memory
 returns-in-Some-clause-memory g c = λ hand.
-    let at = map_number c.args.self.now.shape c.args.key.0 in
+    let at = map_of_key c.args.self.now.shape c.args.key.0 in
     let hit = c.take_group.ensures.hit hand.there.image hand.there.map (places_cached c.args.self.now at 1 _ hand.there.used) in
     let found = ap (option_map (λ x. x.0)) (sym c.in-Some.is) ∙ c.in_ok-x.ensures.map hand.there.image (subst (λ v. ShowsMap v (record { 0 = at }) hand.there.image) (sym hit.1) hand.there.map) in
-    let room = place_fills c.args.self.now at 1 c.in-Some.x.0 (page_number c.args.self.now.shape at) _ found hand.there.used in
+    let room = place_fills c.args.self.now at 1 c.in-Some.x.0 (page_of_place c.args.self.now.shape at) _ found hand.there.used in
     let same = c.write_there.ensures.memory (subst (λ v. FillsNoBlock v 1) (sym hit.1) room) in
     (same.0 ∙ hit.2, same.1 ∙ hit.3)
 
 pub returns-in-None-clause-memory : goal.returns-in-None-clause-memory
 returns-in-None-clause-memory g c = λ hand.
-    let at = map_number c.args.self.now.shape c.args.key.0 in
+    let at = map_of_key c.args.self.now.shape c.args.key.0 in
     let hit = c.take_group.ensures.hit hand.there.image hand.there.map (places_cached c.args.self.now at 1 _ hand.there.used) in
     let found = ap (option_map (λ x. x.0)) (sym c.in-None.is) ∙ c.in_ok-x.ensures.map hand.there.image (subst (λ v. ShowsMap v (record { 0 = at }) hand.there.image) (sym hit.1) hand.there.map) in
-    let free = hand.free (no_place (page_number c.args.self.now.shape at) _ found) in
-    let same = c.write_anew.ensures.memory hand.there.image (subst (λ v. ShowsMap v (record { 0 = map_number v.shape c.args.key.0 }) hand.there.image) (sym hit.1) hand.there.map)
-    (subst (λ v. IfSome (position is_free hand.there.image.entries) (CanWriteAt v (map_number v.shape c.args.key.0) 2)) (sym hit.1) free) in
+    let free = hand.free (no_place (page_of_place c.args.self.now.shape at) _ found) in
+    let same = c.write_anew.ensures.memory hand.there.image (subst (λ v. ShowsMap v (record { 0 = map_of_key v.shape c.args.key.0 }) hand.there.image) (sym hit.1) hand.there.map)
+    (subst (λ v. IfSome (position is_free hand.there.image.entries) (CanWriteAt v (map_of_key v.shape c.args.key.0) 2)) (sym hit.1) free) in
     (same.0 ∙ hit.2, same.1 ∙ hit.3)
 
 -- ---- why it isn't written
@@ -134,15 +133,15 @@ returns-in-None-clause-room g c = on_done c.write_anew.result c.write_anew.ensur
     let now = c.args.self.now in
     let between = c.take_group.new.self in
     let same = c.take_group.ensures.shape in
-    room_both (record { 0 = map_number now.shape c.args.key.0 }) m.0 now between c.write_anew.new.self (g.D.Disk.state c.args.disk.now).block (g.D.Disk.state c.take_group.new.disk).block (g.D.Disk.state c.write_anew.new.disk).block
-    same (subst (λ s. s.maps ≤ m.0.0) same m.1) (subst (λ s. room.map_of s m.0 ≡ record { 0 = map_number s c.args.key.0 }) same m.2)
-    (subst (λ o. IfNone o (IsTrue g.D.Disk.told → MadeRoom (record { 0 = map_number now.shape c.args.key.0 }) now between (g.D.Disk.state c.args.disk.now).block (g.D.Disk.state c.take_group.new.disk).block)) c.in-None.is c.in_ok-x.ensures.made_room told) m.3)
+    room_both (record { 0 = map_of_key now.shape c.args.key.0 }) m.0 now between c.write_anew.new.self (g.D.Disk.state c.args.disk.now).block (g.D.Disk.state c.take_group.new.disk).block (g.D.Disk.state c.write_anew.new.disk).block
+    same (subst (λ s. s.maps ≤ m.0.0) same m.1) (subst (λ s. map_of_data s m.0 ≡ record { 0 = map_of_key s c.args.key.0 }) same m.2)
+    (subst (λ o. IfNone o (IsTrue g.D.Disk.told → MadeRoom (record { 0 = map_of_key now.shape c.args.key.0 }) now between (g.D.Disk.state c.args.disk.now).block (g.D.Disk.state c.take_group.new.disk).block)) c.in-None.is c.in_ok-x.ensures.made_room told) m.3)
 
 pub returns-in-Some-clause-taken : goal.returns-in-Some-clause-taken
 returns-in-Some-clause-taken g c = on_done c.write_there.result c.write_there.ensures.pages (λ kept told m shown.
     let now = c.args.self.now in
     let is = sym (c.in_ok-x.ensures.found told m shown) ∙ ap (option_map (λ x. x.0)) c.in-Some.is in
-    let number : ◌≡◌ {A = PageNo} (record { 0 = map_number now.shape c.args.key.0 }) (record { 0 = map_of m c.args.key.0 }) = ap (λ n. record { 0 = n }) (sym (map_number_is now (g.D.Disk.state c.args.disk.now).block shown.0 m c.requires.up shown.1 c.args.key.0)) in
+    let number : ◌≡◌ {A = PageNo} (record { 0 = map_of_key now.shape c.args.key.0 }) (record { 0 = map_of_key m.shape c.args.key.0 }) = ap (λ n. record { 0 = n }) (sym (map_of_key_is now (g.D.Disk.state c.args.disk.now).block shown.0 m c.requires.up shown.1 c.args.key.0)) in
     let page = subst (λ o. IfSome o (λ x. (now.shape.maps ≤ x.0) × (x.0 < page_count now.shape) × HasCached c.take_group.new.self x)) c.in-Some.is c.in_ok-x.ensures.page in (
       subst (HasCached c.write_there.new.self) number ((kept told).still _ c.in_ok-x.ensures.map_cached),
       subst (λ o. IfSome o (λ n. HasCached c.write_there.new.self (record { 0 = n }))) (sym (target_some m c.args.key.0 c.in-Some.x.0 is)) ((kept told).still c.in-Some.x page.2),

@@ -1,4 +1,4 @@
-use Rattle.std.specs.Prelude.{◌≡◌, ◌%◌, ◌∷◌, [], Some, Err}
+use Rattle.std.specs.Prelude.{◌≡◌, ◌∷◌, [], Some, Err}
 use Rattle.compensation.specs.Inverse.{content}
 use Rattle.std.proofs.Common.{ap, sym, ◌∙◌}
 use Rattle.record_machine.specs.Commands.{at_limit, first_of}
@@ -10,6 +10,7 @@ use Rattle.cluster_core.specs.Shows.{IsShown}
 use Rattle.cluster_core.proofs.WriteTests.{failed, fits, not_stopped, of_done, page_fits, tested_there, the_error, was_done}
 use Rattle.std.specs.Prelude.{◌⊎◌, true, refl}
 use Rattle.std.proofs.Common.{inl, inr}
+use Rattle.sd_base.specs.Places.{slot_of_key}
 use Rattle.cluster_core.specs.Causes.{IsWriteRefusal}
 use Rattle.cluster_core.specs.Ports.{says_stop}
 use Rattle.cluster_core.proofs.Causing.{write_refused}
@@ -37,8 +38,8 @@ tested_ok g c m here shown =
 pub write-requires-clause-page : goal.write-requires-clause-page
 write-requires-clause-page g c =
     let there = c.check_change.ensures.there in
-    let passed = page_fits c.args.self.now c.args.x there.0 2 (length_refusal c.args.what.now (content there.0 (c.args.key.0 % 16))) (sym (c.check_change.ensures.tests there.0 there.1) ∙ c.in_ok-check_change.was) in
-    (there.0, there.1, passed.0, fits there.0 (c.args.key.0 % 16) c.args.what.now (c.requires.suits there.0 there.1) passed.1)
+    let passed = page_fits c.args.self.now c.args.x there.0 2 (length_refusal c.args.what.now (content there.0 (slot_of_key c.args.key.0))) (sym (c.check_change.ensures.tests there.0 there.1) ∙ c.in_ok-check_change.was) in
+    (there.0, there.1, passed.0, fits there.0 (slot_of_key c.args.key.0) c.args.what.now (c.requires.suits there.0 there.1) passed.1)
 
 pub returns-in_err-check_change-clause-step : goal.returns-in_err-check_change-clause-step
 returns-in_err-check_change-clause-step g c = λ told runs m here shown.

@@ -3,7 +3,7 @@ use Rattle.state_ids.specs.Held.{Shows}
 use Rattle.node_cache.specs.Cache.{IsTiedToDisk, FitsCached, changed_by, is_page, page_at, with_page, written_back}
 use Rattle.state_ids.specs.Blocks.{ShowsPage}
 use Rattle.node_cache.proofs.ChangeLaws.{still_shown, still_tied}
-use Rattle.node_cache.proofs.Finding.{not_placed}
+use Rattle.sd_base.proofs.Positions.{not_placed}
 use Rattle.node_cache.proofs.OnePage.{found, is_page-same, place_holds, set_at_place}
 use Rattle.node_cache.proofs.SamePages.{cache_same, with_same}
 use Rattle.node_cache.proofs.cache.NodeCache.apply.Goals as goal

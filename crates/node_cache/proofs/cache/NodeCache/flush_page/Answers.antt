@@ -6,7 +6,7 @@ use Rattle.private_log.proofs.Outcomes.{on_outcome}
 use Rattle.node_cache.specs.Cache.{first_change, has_changes, is_page, page_at, place_of}
 use Rattle.node_cache.specs.Places.{IsWrittenWithin}
 use Rattle.node_cache.specs.Writes.{AreFree, AreInReach, HoldsPages, KeepsContentsButPages, KeepsForeignButPages, NarrowsButPages}
-use Rattle.node_cache.proofs.Finding.{not_placed}
+use Rattle.sd_base.proofs.Positions.{not_placed}
 use Rattle.node_cache.proofs.FlushLaws.{page_range, unchanged_page, changed_page, empty_within, page_written, page_missing}
 use Rattle.node_cache.proofs.cache.NodeCache.flush_page.Goals as goal
 

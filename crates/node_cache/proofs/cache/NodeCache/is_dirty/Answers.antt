@@ -1,7 +1,7 @@
 use Rattle.std.proofs.Common.{ap, sym, ◌∙◌}
 use Rattle.std.specs.Option.{is_some, option_and_then}
 use Rattle.node_cache.specs.Cache.{first_change, is_page, is_changed}
-use Rattle.node_cache.proofs.Finding.{placed, not_placed}
+use Rattle.sd_base.proofs.Positions.{not_placed, placed}
 use Rattle.node_cache.proofs.cache.NodeCache.is_dirty.Goals as goal
 
 pub returns-in-Some : goal.returns-in-Some

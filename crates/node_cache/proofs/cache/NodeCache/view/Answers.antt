@@ -3,7 +3,8 @@ use Rattle.std.specs.Option.{IfSome, is_some}
 use Rattle.std.specs.Bool.{IsTrue}
 use Rattle.frame_pool.specs.Frames.{IsOut, frame_at}
 use Rattle.node_cache.specs.Cache.{AreOut, is_page, is_cached, page_at}
-use Rattle.node_cache.proofs.Finding.{placed, not_placed, all_at}
+use Rattle.sd_base.proofs.Positions.{not_placed, placed}
+use Rattle.node_cache.proofs.Finding.{all_at}
 use Rattle.node_cache.proofs.cache.NodeCache.view.Goals as goal
 
 pub unreachable-requires : goal.unreachable-requires

@@ -1,5 +1,5 @@
 use Rattle.std.proofs.Common.{length, ap, arith}
-use Rattle.node_trials.proofs.ReadyLaws.{length-parked}
+use Rattle.node_cache.proofs.Parking.{length-parked}
 use Rattle.node_trials.proofs.bench.Bench.wreck.Goals as goal
 
 pub returns-clause-table : goal.returns-clause-table

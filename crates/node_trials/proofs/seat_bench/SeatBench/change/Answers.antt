@@ -1,7 +1,8 @@
 use Rattle.std.proofs.Common.{◌+◌, ap, rules}
 use Rattle.node_trials.specs.declared.store.TheConstants.{SHAPE}
 use Rattle.node_trials.proofs.ReadyLaws.{ready_paged}
-use Rattle.node_trials.proofs.SeatedLaws.{counted_set, done, txn_of}
+use Rattle.node_trials.proofs.SeatedLaws.{counted_set, done}
+use Rattle.txn_core.proofs.SeatLaws.{txn_of}
 use Rattle.node_trials.proofs.seat_bench.SeatBench.change.Goals as goal
 
 pub returns : goal.returns

@@ -4,7 +4,8 @@ use Rattle.node_cache.specs.Cache.{AreShown, changed_by, written_back}
 use Rattle.node_cache.proofs.SamePages.{with_same}
 use Rattle.node_trials.specs.declared.store.TheConstants.{SHAPE}
 use Rattle.node_trials.proofs.ReadyLaws.{ready_same}
-use Rattle.node_trials.proofs.SeatedLaws.{alive, counted_set, done, ready_read, txn_of}
+use Rattle.node_trials.proofs.SeatedLaws.{alive, counted_set, done, ready_read}
+use Rattle.txn_core.proofs.SeatLaws.{txn_of}
 use Rattle.node_trials.proofs.seat_bench.SeatBench.take_back.Goals as goal
 
 pub take_back_one-requires-clause-shown : goal.take_back_one-requires-clause-shown

@@ -4,7 +4,7 @@ use Rattle.sd_base.specs.Disk.{DiskState}
 use Rattle.record_machine.specs.Rows.{Row, row_reply}
 use Rattle.shared_store.specs.Causes.{HasCause}
 use Rattle.shared_store.specs.Devices.{GoesOn, both}
-use Rattle.shared_store.specs.Store.{CanServe, IsQuiet, KeepsPorts, Shows}
+use Rattle.shared_store.specs.Store.{CanServe, IsQuietStore, KeepsPorts, Shows}
 use Rattle.shared_store.specs.StoreState.{StoreState}
 use Rattle.shared_store.specs.Transcript.{replies_text}
 use Rattle.shared_store.proofs.Dumping.{Dumps, IsBelow, keys_left}
@@ -13,7 +13,7 @@ use Rattle.shared_store.proofs.store.Store.dump.Given as goal
 abbrev pub invariant-loop-reply : goal.invariant-loop-reply
 invariant-loop-reply g l = record {
   ready : CanServe l.self (g.D.Disk.state l.disk) (g.V.Disk.state l.vault);
-  quiet : IsTrue g.D.Disk.told → IsQuiet l.self (g.D.Disk.state l.disk).block;
+  quiet : IsTrue g.D.Disk.told → IsQuietStore l.self (g.D.Disk.state l.disk).block;
   disk : GoesOn (g.D.Disk.state l.fn.disk) (g.D.Disk.state l.disk);
   vault : GoesOn (g.V.Disk.state l.fn.vault) (g.V.Disk.state l.vault);
   ports : (first : DiskState) → KeepsPorts l.fn.self first (g.D.Disk.state l.fn.disk) → KeepsPorts l.self first (g.D.Disk.state l.disk);

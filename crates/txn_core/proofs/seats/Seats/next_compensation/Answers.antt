@@ -3,8 +3,8 @@ use Rattle.compensation.specs.Finding.{next_behind}
 use Rattle.txn_core.specs.Shown.{shown}
 use Rattle.txn_core.specs.Undo.{IsPageOf, compensation_of}
 use Rattle.txn_core.proofs.SeatLaws.{busy_below, room_for_end, seat_lies}
-use Rattle.txn_core.proofs.TakeBackLaws.{back_of_update, legal_back, one_back, one_update, to_undo_own}
-use Rattle.txn_core.proofs.UndoLaws.{seat_told}
+use Rattle.txn_core.proofs.TakeBackLaws.{back_of_update, legal_back, one_back, one_update}
+use Rattle.txn_core.proofs.UndoLaws.{newest_update, seat_told}
 use Rattle.txn_core.proofs.seats.Seats.next_compensation.Goals as goal
 
 pub returns-in-Some-clause-legal : goal.returns-in-Some-clause-legal
@@ -33,7 +33,7 @@ returns-in-None-clause-there g c = λ told recs t v is has tells undo.
     let found = c.in_ok-update.ensures.found told recs t is has tells in
     let update : undo.update ≡ c.in_ok-update.update = one_update (6 * c.args.c.now.log.start) recs t undo.number found.0 undo.update c.in_ok-update.update undo.newest undo.there found.1 found.2 in
     let none = c.in-None.ensures.there v undo.cached undo.room (subst (λ u. IsPageOf u v) update undo.of_page) in
-    let some = back_of_update t c.in_ok-update.next v.ident c.in_ok-update.update (to_undo_own t (6 * c.args.c.now.log.start) recs found.0 c.in_ok-update.update (seat_told c.args.self.now c.args.c.now.log.start c.args.seat t recs tells is) found.1 found.2) in
+    let some = back_of_update t c.in_ok-update.next v.ident c.in_ok-update.update (newest_update t (6 * c.args.c.now.log.start) recs found.0 c.in_ok-update.update (seat_told c.args.self.now c.args.c.now.log.start c.args.seat t recs tells is) found.1 found.2) in
     let none_too = ap (λ u. compensation_of u c.in_ok-update.next v.ident c.in_ok-update.update) same in
     let made = some.1 in
     cc

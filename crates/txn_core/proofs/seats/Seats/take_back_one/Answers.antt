@@ -24,11 +24,11 @@ use Rattle.txn_core.specs.Shown.{shown}
 use Rattle.txn_core.specs.Told.{AreTold, HasRecords}
 use Rattle.txn_core.specs.Undo.{TakesBack}
 use Rattle.txn_core.specs.Updates.{HasPage}
-use Rattle.txn_core.proofs.CompensationLaws.{out_of_shown}
 use Rattle.txn_core.proofs.SeatLaws.{busy_below, legal_more, owed_at, seat_lies, seats_state}
 use Rattle.txn_core.proofs.Stops.{cut_more, front_more, on_stop, stays_then, stop_then}
 use Rattle.txn_core.proofs.TakeBackLaws.{change_back, tied_taken_back, told_taken_back}
 use Rattle.txn_core.proofs.UpdateLaws.{page_updated}
+use Rattle.node_cache.proofs.ChangedPages.{out_of_shown}
 use Rattle.txn_core.proofs.seats.Seats.take_back_one.Goals as goal
 
 pub returns-in_err-rec-clause-there : goal.returns-in_err-rec-clause-there
