@@ -1,0 +1,14 @@
+pub mod Pages
+pub mod Effect
+pub mod Chain
+pub mod Standing
+pub mod History
+pub mod Steps
+pub mod Rebuilding
+pub mod Redo
+pub mod Records
+pub mod Identifiers
+pub mod Rules
+pub mod Room
+pub mod Headroom
+pub mod Outcomes
