@@ -116,6 +116,25 @@ with_last_cut-end {A} p n r f now y g =
 pub with_last_cut-off : {A : Type 0} (p : History) (n : ℕ) (f : ℕ → ℕ → A) (now : ℕ → A) (y k : ℕ) → p.guard y ≢ n → with_last_cut p n f now y k ≡ f y k
 with_last_cut-off p n f now y k d = rw (ne_eqb (p.guard y) n d) refl
 
+-- where a cut has all of the longer log, the entries are those with all of the old one; and so are those of now
+pub entry_at-above : (p : History) (n : ℕ) (cut : ℕ → ℕ) → length (p.live n) < cut n → (y : ℕ)
+    → entry_at p (set_at n (length (p.live n)) cut) y ≡ with_last_cut p n p.entry (entry_now p) y (cut (p.guard y))
+entry_at-above p n cut lt y = was (cases_eq (p.guard y) n) ∙ with_last_cut-above p n p.entry (entry_now p) y cut lt
+  where
+    was : (p.guard y ≡ n) ⊎ (p.guard y ≢ n) → entry_at p (set_at n (length (p.live n)) cut) y ≡ cond (eqb (p.guard y) n) (entry_now p y) (entry_at p (set_at n (length (p.live n)) cut) y)
+    was (inl g) = rw (eq-eqb (p.guard y) n g) (ap (p.entry y) (at_guard g))
+      where
+        at_guard : p.guard y ≡ n → set_at n (length (p.live n)) cut (p.guard y) ≡ length (p.live (p.guard y))
+        at_guard g = rw (g, set_at-same n (length (p.live n)) cut) refl
+    was (inr d) = rw (ne_eqb (p.guard y) n d) refl
+
+pub entry_now-above : (p : History) (n : ℕ) (r : LogRecord) (y : ℕ) → entry_now p y ≡ with_last_cut p n p.entry (entry_now p) y (length (with_record n r p.live (p.guard y)))
+entry_now-above p n r y = go (cases_eq (p.guard y) n)
+  where
+    go : (p.guard y ≡ n) ⊎ (p.guard y ≢ n) → entry_now p y ≡ with_last_cut p n p.entry (entry_now p) y (length (with_record n r p.live (p.guard y)))
+    go (inl g) = sym (with_last_cut-end p n r p.entry (entry_now p) y g)
+    go (inr d) = ap (p.entry y) (ap (λ (l : List LogRecord). length l) (sym (with_record-other n r p.live (p.guard y) d))) ∙ sym (with_last_cut-off p n p.entry (entry_now p) y (length (with_record n r p.live (p.guard y))) d)
+
 pub with_last_cut-low : {A : Type 0} (p : History) (n : ℕ) (f : ℕ → ℕ → A) (now : ℕ → A) (y k : ℕ) → k ≤ length (p.live n) → with_last_cut p n f now y k ≡ f y k
 with_last_cut-low {A} p n f now y k le = go (eqb (p.guard y) n)
   where

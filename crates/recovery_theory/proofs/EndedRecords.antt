@@ -1,5 +1,5 @@
 -- A commit overlays the records with what its transaction wrote, and changes nothing else.
-use Rattle.std.proofs.Common.{◌≡◌, ◌≢◌, ◌⊎◌, inl, inr, ℕ, zero, suc, ◌+◌, ◌<◌, ◌≤◌, ◌&&◌, Bool, true, false, cond, eqb, List, [], ◌∷◌, length, refl, ap, sym, subst, ◌∙◌, arith, None, eq-eqb, ne_eqb, eqb-true, mod-lt, take_all, length-append}
+use Rattle.std.proofs.Common.{◌≡◌, ◌≢◌, ◌⊎◌, inl, inr, ℕ, zero, suc, ◌+◌, ◌<◌, ◌≤◌, ◌&&◌, Bool, true, false, eqb, List, [], ◌∷◌, length, refl, ap, sym, subst, ◌∙◌, arith, None, eq-eqb, eqb-true, mod-lt, take_all, length-append}
 use Rattle.std.proofs.lemmas.Bool.{cases_eq, cases_lt, and_parts, both_ways, and_from}
 use mathlib.Core.Path.{fun_ext}
 use Rattle.sd_base.specs.Places.{first_key, group_of, keys_per_group, map_of_group, map_of_key, page_of_place, slot_of_key}
@@ -12,7 +12,7 @@ use Rattle.recovery_theory.specs.Pages.{SlotValue, is_used, entry_group}
 use Rattle.recovery_theory.specs.Standing.{Devices, with_updates}
 use Rattle.recovery_theory.specs.Steps.{with_record, set_at, ended}
 use Rattle.space_map.specs.declared.map_entry.MapEntry.{MapEntry}
-use Rattle.recovery_theory.proofs.Cuts.{set_at-same, set_at-other, with_record-same, with_record-other, with_last_cut-above, with_last_cut-end, with_last_cut-off, LongCut, above_same, above_legal}
+use Rattle.recovery_theory.proofs.Cuts.{set_at-same, set_at-other, with_record-same, with_record-other, entry_at-above, entry_now-above, LongCut, above_same, above_legal}
 use Rattle.recovery_theory.proofs.Ends.{ends_history, end_closes}
 use Rattle.recovery_theory.proofs.OpenUpdates.{transaction, transaction_cases, list_cases}
 
@@ -131,21 +131,10 @@ end_overlays p n t r records after holds is_end_record over = record {
     legal cut is = above_legal p n r cut (holds.history.sound n) (long cut is)
 
     entry : (cut : ℕ → ℕ) → IsCut (ended p n t r) cut → (y : ℕ) → entry_at p (set_at n (length (p.live n)) cut) y ≡ entry_at (ended p n t r) cut y
-    entry cut is y = was (cases_eq (p.guard y) n) ∙ with_last_cut-above p n p.entry (entry_now p) y cut (low cut is)
-      where
-        was : (p.guard y ≡ n) ⊎ (p.guard y ≢ n) → entry_at p (set_at n (length (p.live n)) cut) y ≡ cond (eqb (p.guard y) n) (entry_now p y) (entry_at p (set_at n (length (p.live n)) cut) y)
-        was (inl g) = rw (eq-eqb (p.guard y) n g) (ap (p.entry y) (at_guard g))
-          where
-            at_guard : p.guard y ≡ n → set_at n (length (p.live n)) cut (p.guard y) ≡ length (p.live (p.guard y))
-            at_guard g = rw (g, set_at-same n (length (p.live n)) cut) refl
-        was (inr d) = rw (ne_eqb (p.guard y) n d) refl
+    entry cut is y = entry_at-above p n cut (low cut is) y
 
     now : (y : ℕ) → entry_now p y ≡ entry_now (ended p n t r) y
-    now y = go (cases_eq (p.guard y) n)
-      where
-        go : (p.guard y ≡ n) ⊎ (p.guard y ≢ n) → entry_now p y ≡ entry_now (ended p n t r) y
-        go (inl g) = sym (with_last_cut-end p n r p.entry (entry_now p) y g)
-        go (inr d) = ap (p.entry y) (ap (λ (l : List LogRecord). length l) (sym (with_record-other n r p.live (p.guard y) d))) ∙ sym (with_last_cut-off p n p.entry (entry_now p) y (length (with_record n r p.live (p.guard y))) d)
+    now y = entry_now-above p n r y
 
     here : (cut : ℕ → ℕ) → logs_at p (set_at n (length (p.live n)) cut) n ≡ p.live n
     here cut = rw (set_at-same n (length (p.live n)) cut) (take_all (length (p.live n)) (p.live n) (omega arith))

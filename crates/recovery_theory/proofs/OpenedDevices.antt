@@ -13,7 +13,7 @@ use Rattle.recovery_theory.proofs.Rebuilding.{determined}
 use Rattle.recovery_theory.proofs.EndedRecords.{search_below}
 use Rattle.space_map.specs.PageImage.{PageImage}
 
-pub each_cut : StandsAtEachCut
+unfoldable pub each_cut : StandsAtEachCut
 each_cut p records cut holds is = record {
   guard = p.guard;
   entry = entry_at p cut;

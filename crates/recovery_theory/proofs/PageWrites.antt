@@ -1,5 +1,5 @@
 -- Pages are written, lost, archived and passed on.
-use Rattle.std.proofs.Common.{◌≡◌, ◌≢◌, ◌⊎◌, inl, inr, ℕ, ◌+◌, ◌<◌, ◌≤◌, List, [], ◌∷◌, ◌++◌, length, refl, ap, sym, subst, ◌∙◌, arith, Some, None, IfSome, eq-eqb, ne_eqb, append-nil}
+use Rattle.std.proofs.Common.{◌≡◌, ◌≢◌, ◌⊎◌, inl, inr, ℕ, ◌+◌, ◌<◌, ◌≤◌, List, [], ◌∷◌, ◌++◌, length, refl, ap, sym, subst, ◌∙◌, arith, Some, None, Option, IfSome, eq-eqb, ne_eqb, append-nil}
 use Rattle.std.proofs.lemmas.Bool.{cases_eq}
 use Rattle.sd_base.specs.Places.{page_of_place}
 use Rattle.sd_base.specs.Shape.{pages_per_map}
@@ -73,8 +73,12 @@ paged_at p x cut history last is =
     subst (λ i. PageChain p.devices (logs_at p cut) (birth_of (entry_now p x)) i x (p.guard x)) e.0
     (subst (λ (b : MapEntry). PageChain p.devices (logs_at p cut) (birth_of b) (image_at p cut x) x (p.guard x)) e.1 ((history.stands cut is).pages x))
 
-pub writes : WriteKeepsHistory
-writes p x history last = record {
+-- another content of a page's block keeps a history where it keeps what is said of that page
+on_disk_keeps : (p : History) (x : ℕ) (content : Option PageImage) → IsHistory p
+    → ((cut : ℕ → ℕ) → IsCut p cut → (q n : ℕ) (i : PageImage) → x < p.devices.shape.maps → q < pages_per_map → n ≢ p.guard x → content ≡ Some i → IsApart p.devices (logs_at p cut) p.guard (entry_at p cut) x q n i)
+    → ((cut : ℕ → ℕ) → IsCut p cut → PageChain (on_disk p x content).devices (logs_at p cut) (birth_of (entry_at p cut x)) (image_at p cut x) x (p.guard x))
+    → IsHistory (on_disk p x content)
+on_disk_keeps p x content history apart_at page_at = record {
   sound = history.sound;
   steady = history.steady;
   stands = λ cut is. let st = history.stands cut is in record {
@@ -90,18 +94,27 @@ writes p x history last = record {
   };
 }
   where
-    off : (cut : ℕ → ℕ) → IsCut p cut → (m q n : ℕ) (i : PageImage) → m < p.devices.shape.maps → q < pages_per_map → n ≢ p.guard m → set_at x (Some (image_now p x)) p.devices.disk m ≡ Some i → (m ≡ x) ⊎ (m ≢ x)
+    off : (cut : ℕ → ℕ) → IsCut p cut → (m q n : ℕ) (i : PageImage) → m < p.devices.shape.maps → q < pages_per_map → n ≢ p.guard m → set_at x content p.devices.disk m ≡ Some i → (m ≡ x) ⊎ (m ≢ x)
         → IsApart p.devices (logs_at p cut) p.guard (entry_at p cut) m q n i
     off cut is m q n i lt le d e (inl h) =
-        let e' : Some (image_now p x) ≡ Some i = rw (eq-eqb m x h) at e in
-        let s = (steady_at p x cut history last is).0 in
-        let same : image_at p cut m ≡ i = ap (image_at p cut) h ∙ (s ∙ cc) in
-        inl (sym (ap birth_of ((history.stands cut is).lives m q lt le ∙ ap (λ (j : PageImage). entries_of j q) same)))
+        subst (λ k. IsApart p.devices (logs_at p cut) p.guard (entry_at p cut) k q n i) (sym h)
+        (apart_at cut is q n i (subst (λ k. k < p.devices.shape.maps) h lt) le (λ g. d (g ∙ ap p.guard (sym h))) (rw (eq-eqb m x h) at e))
     off cut is m q n i lt le d e (inr h) = (history.stands cut is).apart m q n i lt le d (rw (ne_eqb m x h) at e)
 
-    page : (cut : ℕ → ℕ) → IsCut p cut → (y : ℕ) → (y ≡ x) ⊎ (y ≢ x) → PageChain (on_disk p x (Some (image_now p x))).devices (logs_at p cut) (birth_of (entry_at p cut y)) (image_at p cut y) y (p.guard y)
+    page : (cut : ℕ → ℕ) → IsCut p cut → (y : ℕ) → (y ≡ x) ⊎ (y ≢ x) → PageChain (on_disk p x content).devices (logs_at p cut) (birth_of (entry_at p cut y)) (image_at p cut y) y (p.guard y)
+    page cut is y (inl e) = subst (λ k. PageChain (on_disk p x content).devices (logs_at p cut) (birth_of (entry_at p cut k)) (image_at p cut k) k (p.guard k)) (sym e) (page_at cut is)
     page cut is y (inr d) = let q = (history.stands cut is).pages y in record { shown = q.shown; disk = rw (ne_eqb y x d) q.disk; chain = q.chain; gap = q.gap; rises = q.rises }
-    page cut is y (inl e) =
+
+pub writes : WriteKeepsHistory
+writes p x history last = on_disk_keeps p x (Some (image_now p x)) history apart page
+  where
+    apart : (cut : ℕ → ℕ) → IsCut p cut → (q n : ℕ) (i : PageImage) → x < p.devices.shape.maps → q < pages_per_map → n ≢ p.guard x → Some (image_now p x) ≡ Some i → IsApart p.devices (logs_at p cut) p.guard (entry_at p cut) x q n i
+    apart cut is q n i lt le d e =
+        let same : image_at p cut x ≡ i = (steady_at p x cut history last is).0 ∙ cc in
+        inl (sym (ap birth_of ((history.stands cut is).lives x q lt le ∙ ap (λ (j : PageImage). entries_of j q) same)))
+
+    page : (cut : ℕ → ℕ) → IsCut p cut → PageChain (on_disk p x (Some (image_now p x))).devices (logs_at p cut) (birth_of (entry_at p cut x)) (image_at p cut x) x (p.guard x)
+    page cut is =
         let q = paged_at p x cut history last is in
         let s = steady_at p x cut history last is in
         let here : PageChain (on_disk p x (Some (image_now p x))).devices (logs_at p cut) (birth_of (entry_now p x)) (image_now p x) x (p.guard x) = record {
@@ -111,36 +124,13 @@ writes p x history last = record {
           gap = q.gap;
           rises = q.rises;
         } in
-        rw (e, s.0, s.1) here
+        rw (s.0, s.1) here
 
 pub loses : LossKeepsHistory
-loses p x history = record {
-  sound = history.sound;
-  steady = history.steady;
-  stands = λ cut is. let st = history.stands cut is in record {
-    pages = λ y. page cut is y (cases_eq y x);
-    shaped = st.shaped;
-    unused = st.unused;
-    slots = st.slots;
-    locks = st.locks;
-    map_pages = st.map_pages;
-    lives = st.lives;
-    ordered = st.ordered;
-    apart = λ m q n i lt le d e. off cut is m q n i lt le d e (cases_eq m x);
-  };
-}
+loses p x history = on_disk_keeps p x None history (λ cut is q n i lt le d e. absurd cc) page
   where
-    off : (cut : ℕ → ℕ) → IsCut p cut → (m q n : ℕ) (i : PageImage) → m < p.devices.shape.maps → q < pages_per_map → n ≢ p.guard m → set_at x None p.devices.disk m ≡ Some i → (m ≡ x) ⊎ (m ≢ x)
-        → IsApart p.devices (logs_at p cut) p.guard (entry_at p cut) m q n i
-    off cut is m q n i lt le d e (inl h) = let e' : None ≡ Some i = rw (eq-eqb m x h) at e in absurd cc
-    off cut is m q n i lt le d e (inr h) = (history.stands cut is).apart m q n i lt le d (rw (ne_eqb m x h) at e)
-
-    page : (cut : ℕ → ℕ) → IsCut p cut → (y : ℕ) → (y ≡ x) ⊎ (y ≢ x) → PageChain (on_disk p x None).devices (logs_at p cut) (birth_of (entry_at p cut y)) (image_at p cut y) y (p.guard y)
-    page cut is y d = let q = (history.stands cut is).pages y in record { shown = q.shown; disk = disk d; chain = q.chain; gap = q.gap; rises = q.rises }
-      where
-        disk : (y ≡ x) ⊎ (y ≢ x) → IfSome (set_at x None p.devices.disk y) (λ i. ((history.stands cut is).pages y).shown ≡ in_life_from y (birth_of (entry_at p cut y)) i)
-        disk (inl e) = rw (eq-eqb y x e) tt
-        disk (inr d) = rw (ne_eqb y x d) ((history.stands cut is).pages y).disk
+    page : (cut : ℕ → ℕ) → IsCut p cut → PageChain (on_disk p x None).devices (logs_at p cut) (birth_of (entry_at p cut x)) (image_at p cut x) x (p.guard x)
+    page cut is = let q = (history.stands cut is).pages x in record { shown = q.shown; disk = rw (eq-eqb x x refl) tt; chain = q.chain; gap = q.gap; rises = q.rises }
 
 -- the chain of a clean page, with the page on the disk
 pub clean_at : (p : History) (x : ℕ) (cut : ℕ → ℕ) → IsHistory p → p.last x ≤ p.stable (p.guard x) → IsClean p x → IsCut p cut

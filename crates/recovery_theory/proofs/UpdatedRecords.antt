@@ -1,5 +1,5 @@
 -- Updates and stops keep the records.
-use Rattle.std.proofs.Common.{◌≡◌, ◌≢◌, ◌⊎◌, inl, inr, ℕ, suc, ◌<◌, ◌≤◌, Bool, true, false, cond, eqb, leb, List, [], length, take, refl, ap, sym, subst, ◌∙◌, arith, Some, None, eq-eqb, ne_eqb, take_all, length-take-le, leb-true, leb-false}
+use Rattle.std.proofs.Common.{◌≡◌, ◌≢◌, ◌⊎◌, inl, inr, ℕ, suc, ◌<◌, ◌≤◌, Bool, true, false, leb, List, [], length, take, refl, ap, sym, subst, ◌∙◌, arith, Some, None, eq-eqb, take_all, length-take-le, leb-true, leb-false}
 use Rattle.std.proofs.lemmas.Bool.{cases_eq}
 use mathlib.Core.Path.{fun_ext}
 use Rattle.log_record.specs.declared.record.LogRecord.{LogRecord}
@@ -9,7 +9,7 @@ use Rattle.recovery_theory.specs.Records.{HasRecords, Holds, UpdateKeepsRecords,
 use Rattle.recovery_theory.specs.Pages.{SlotValue, is_used}
 use Rattle.recovery_theory.specs.Steps.{with_record, set_at, with_last_cut, logged, stopped}
 use Rattle.space_map.specs.declared.map_entry.MapEntry.{MapEntry}
-use Rattle.recovery_theory.proofs.Cuts.{set_at-same, set_at-other, with_record-other, with_last_cut-below, with_last_cut-above, with_last_cut-end, with_last_cut-off, LongCut, long_cut, below_legal, below_same, above_same, above_legal}
+use Rattle.recovery_theory.proofs.Cuts.{set_at-same, set_at-other, with_last_cut-below, with_last_cut-above, entry_at-above, entry_now-above, LongCut, long_cut, below_legal, below_same, above_same, above_legal}
 use Rattle.recovery_theory.proofs.OpenUpdates.{transaction, transaction_cases}
 use Rattle.recovery_theory.proofs.Stops.{stopped_at, stopped_cut, stopped_logs, stops}
 use Rattle.recovery_theory.proofs.Updates.{updates, open-update, open-update_other, of_slot-other, open_update_of}
@@ -30,37 +30,20 @@ logged_holds p n r now last records holds history opens = record {
     up : (ℕ → ℕ) → ℕ → ℕ
     up cut = set_at n (length (p.live n)) cut
 
-    entry : (cut : ℕ → ℕ) → length (p.live n) < cut n → (y : ℕ) → entry_at p (set_at n (length (p.live n)) cut) y ≡ with_last_cut p n p.entry (entry_now p) y (cut (p.guard y))
-    entry cut lt y = was (cases_eq (p.guard y) n) ∙ with_last_cut-above p n p.entry (entry_now p) y cut lt
-      where
-        was : (p.guard y ≡ n) ⊎ (p.guard y ≢ n) → entry_at p (set_at n (length (p.live n)) cut) y ≡ cond (eqb (p.guard y) n) (entry_now p y) (entry_at p (set_at n (length (p.live n)) cut) y)
-        was (inl g) = rw (eq-eqb (p.guard y) n g) (ap (p.entry y) (at_guard g))
-          where
-            at_guard : p.guard y ≡ n → set_at n (length (p.live n)) cut (p.guard y) ≡ length (p.live (p.guard y))
-            at_guard g = rw (g, set_at-same n (length (p.live n)) cut) refl
-        was (inr d) = rw (ne_eqb (p.guard y) n d) refl
-
-    now_same : (y : ℕ) → entry_now p y ≡ with_last_cut p n p.entry (entry_now p) y (length (with_record n r p.live (p.guard y)))
-    now_same y = go (cases_eq (p.guard y) n)
-      where
-        go : (p.guard y ≡ n) ⊎ (p.guard y ≢ n) → entry_now p y ≡ with_last_cut p n p.entry (entry_now p) y (length (with_record n r p.live (p.guard y)))
-        go (inl g) = sym (with_last_cut-end p n r p.entry (entry_now p) y g)
-        go (inr d) = ap (p.entry y) (ap (λ (l : List LogRecord). length l) (sym (with_record-other n r p.live (p.guard y) d))) ∙ sym (with_last_cut-off p n p.entry (entry_now p) y (length (with_record n r p.live (p.guard y))) d)
-
     keys : (cut : ℕ → ℕ) → LongCut p n r cut → (t : Bool) → leb (cut n) (length (p.live n)) ≡ t → HasRecords p.devices.shape (λ y. with_last_cut p n p.entry (entry_now p) y (cut (p.guard y))) p.settled records
     keys cut c true e =
         let le : cut n ≤ length (p.live n) = leb-true (cut n) (length (p.live n)) e in
         subst (λ (f : ℕ → MapEntry). HasRecords p.devices.shape f p.settled records) (fun_ext (λ y. with_last_cut-below p n p.entry (entry_now p) y cut le)) (holds.keys cut (below_legal p n r cut c le))
     keys cut c false e =
         let lt : length (p.live n) < cut n = leb-false (cut n) (length (p.live n)) e in
-        subst (λ (f : ℕ → MapEntry). HasRecords p.devices.shape f p.settled records) (fun_ext (entry cut lt)) (holds.keys (set_at n (length (p.live n)) cut) (above_legal p n r cut (holds.history.sound n) c))
+        subst (λ (f : ℕ → MapEntry). HasRecords p.devices.shape f p.settled records) (fun_ext (entry_at-above p n cut lt)) (holds.keys (set_at n (length (p.live n)) cut) (above_legal p n r cut (holds.history.sound n) c))
 
     pending : (cut : ℕ → ℕ) → LongCut p n r cut → (x s : ℕ) (o : Transaction) → of_slot x s (open_updates p.devices.first (λ m. take (cut m) (with_record n r p.live m)) o) ≢ [] → (t : Bool) → leb (cut n) (length (p.live n)) ≡ t
         → (with_last_cut p n p.entry (entry_now p) x (cut (p.guard x)) ≡ with_last_cut p n p.entry (entry_now p) x (length (with_record n r p.live (p.guard x)))) × ((is_used (with_last_cut p n p.entry (entry_now p) x (length (with_record n r p.live (p.guard x))))) ≡ true)
     pending cut c x s o h true e =
         let le : cut n ≤ length (p.live n) = leb-true (cut n) (length (p.live n)) e in
         let old = holds.pending cut (below_legal p n r cut c le) x s o (λ z. h (ap (λ l. of_slot x s (listed (left_of o.txn (p.devices.first o.node) l None))) (sym (below_same p n r cut le o.node)) ∙ z)) in
-        (sym (with_last_cut-below p n p.entry (entry_now p) x cut le) ∙ (old.0 ∙ now_same x), ap is_used (sym (now_same x)) ∙ old.1)
+        (sym (with_last_cut-below p n p.entry (entry_now p) x cut le) ∙ (old.0 ∙ entry_now-above p n r x), ap is_used (sym (entry_now-above p n r x)) ∙ old.1)
     pending cut c x s o h false e =
         let lt : length (p.live n) < cut n = leb-false (cut n) (length (p.live n)) e in
         let here : logs_at p (set_at n (length (p.live n)) cut) n ≡ p.live n = rw (set_at-same n (length (p.live n)) cut) (take_all (length (p.live n)) (p.live n) (omega arith)) in
@@ -71,10 +54,10 @@ logged_holds p n r now last records holds history opens = record {
             → (with_last_cut p n p.entry (entry_now p) x (cut (p.guard x)) ≡ with_last_cut p n p.entry (entry_now p) x (length (with_record n r p.live (p.guard x)))) × ((is_used (with_last_cut p n p.entry (entry_now p) x (length (with_record n r p.live (p.guard x))))) ≡ true)
         go lt (inl k) =
             let old = holds.pending (set_at n (length (p.live n)) cut) (above_legal p n r cut (holds.history.sound n) c) x s o k in
-            (sym (entry cut lt x) ∙ (old.0 ∙ now_same x), ap is_used (sym (now_same x)) ∙ old.1)
+            (sym (entry_at-above p n cut lt x) ∙ (old.0 ∙ entry_now-above p n r x), ap is_used (sym (entry_now-above p n r x)) ∙ old.1)
         go lt (inr (g, u)) =
             let at : with_last_cut p n p.entry (entry_now p) x (cut (p.guard x)) ≡ entry_now p x = sym (with_last_cut-above p n p.entry (entry_now p) x cut lt) ∙ rw (eq-eqb (p.guard x) n g) refl in
-            (at ∙ now_same x, ap is_used (sym (now_same x)) ∙ u)
+            (at ∙ entry_now-above p n r x, ap is_used (sym (entry_now-above p n r x)) ∙ u)
 
 pub update_keeps : UpdateKeepsRecords
 update_keeps p n t x op back r us records holds u =
