@@ -14,10 +14,11 @@ use Rattle.page_owner.specs.declared.owners.Own.{Own}
 use Rattle.page_owner.specs.declared.owners.Own.TheVariants.{Out}
 use Rattle.private_log.specs.Log.{SameLog}
 use Rattle.state_ids.specs.Held.{KeepsFrames}
+use Rattle.state_ids.specs.Blocks.{ShowsPage}
 use Rattle.state_ids.proofs.PageLaws.{Shows-out}
-use Rattle.node_cache.specs.Cache.{AreOut, AreOwned, AreShown, CachedPage, CacheState, IsCache, IsOfStore, SamePages, is_page, page_at, with_page}
+use Rattle.node_cache.specs.Cache.{AreOut, AreOwned, AreShown, CachedPage, CacheState, IsCache, IsOfStore, SamePages, changed_by, is_page, page_at, with_page}
 use Rattle.node_cache.proofs.OnePage.{is_page-same, only}
-use Rattle.node_cache.proofs.SamePages.{all_same, cached_same}
+use Rattle.node_cache.proofs.SamePages.{all_same, cached_same, with_same}
 
 -- ---- pages that are the same but for their changes
 
@@ -26,6 +27,13 @@ pub owned_same : (owners : List Own) (c d : CacheState) → d.node ≡ c.node �
 owned_same owners c d node same owned x =
     let cached = cached_same x c.pages d.pages same in
     (λ out. cached ∙ (owned x).0 (out ∙ ap Out node), λ is. (owned x).1 (sym cached ∙ is) ∙ ap Out (sym node))
+
+-- their frames are out as before, and show their pages
+pub out_same : (pool : List (Option (List ℕ))) (c d : CacheState) → SamePages c.pages d.pages → AreOut pool c → AreOut pool d
+out_same pool c d same out = all_same (λ p. IsOut pool p.frame) c.pages d.pages same out
+
+pub shown_same : (s : Shape) (pool : List (Option (List ℕ))) (c d : CacheState) → SamePages c.pages d.pages → AreShown s pool c → AreShown s pool d
+shown_same s pool c d same shown = all_same (λ p. ShowsPage s p.ticket.page pool p.frame) c.pages d.pages same shown
 
 -- the store of a cache
 pub store_same : (s : Shape) (c d : CacheState) → d.node ≡ c.node → SameLog c.log d.log → SamePages c.pages d.pages → IsOfStore s c → IsOfStore s d
@@ -80,3 +88,7 @@ page_beside x y f (p ∷ ps) same other = by (is_page x p) (is_page y p) refl re
     by true false here there rest = let no : is_page y (f p) ≡ false = same p ∙ there in rw (here, there) (rw no rest)
     by false true here there rest = rw here (rw there refl)
     by false false here there rest = rw here (rw there rest)
+
+-- a page that is changed in its frame comes and goes no more than the others
+pub cached_changed : (x y : PageNo) (number : ℕ) (pages : List CachedPage) → is_some (page_at y (with_page x (changed_by number) pages)) ≡ is_some (page_at y pages)
+cached_changed x y number pages = cached_same y pages (with_page x (changed_by number) pages) (with_same x (changed_by number) (λ p. refl) pages)

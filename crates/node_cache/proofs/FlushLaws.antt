@@ -2,7 +2,6 @@
 use Rattle.std.specs.Prelude.{◌≡◌, ◌≢◌, ◌≤◌, ◌<◌, ◌+◌, ℕ, zero, suc, Bool, true, false, List, [], ◌∷◌, Option, Some, None, All, AllPairs, is_some, option_and_then, length, slice_index_or, if◌then◌else◌, refl}
 use Rattle.std.specs.List.{find, cons_option, count_by}
 use Rattle.std.proofs.Common.{arith, ap, sym, ◌∙◌}
-use Rattle.std.proofs.lemmas.Bool.{cases_lt}
 use Rattle.std.proofs.lemmas.List.{same_lists}
 use Rattle.sd_base.specs.declared.names.PageNo.{PageNo}
 use Rattle.node_cache.specs.Cache.{CachedPage, Changes, first_change, has_changes, is_page, page_at, place_of, with_page, written_back}
@@ -38,10 +37,6 @@ changed_page (Some p) some = by p.changes refl some
     by : (c : Option Changes) → p.changes ≡ c → is_some (first_change p) ≡ true → count_by has_changes (p ∷ []) ≡ 1
     by None e some = let none : is_some (first_change p) ≡ false = rw e refl in absurd cc
     by (Some c) e some = rw e refl
-
--- a range of no page leaves the list
-pub empty_within : (i : ℕ) (old new : List CachedPage) → IsWrittenWithin i i old new → new ≡ old
-empty_within i old new is = same_lists new old is.count (λ k d below. is.outside k d (cases_lt k i))
 
 -- the pages with the page x written
 pub page_written : (x : PageNo) (pages new : List CachedPage) (i : ℕ) → place_of x pages ≡ Some i → AllPairs (λ p q. p.ticket.page ≢ q.ticket.page) pages → IsWrittenWithin i (i + 1) pages new → new ≡ with_page x written_back pages

@@ -14,7 +14,6 @@ use Rattle.node_cache.specs.Places.{IsWrittenWithin, between}
 use Rattle.node_cache.specs.Room.{is_map_of, leaving, may_go, staying}
 use Rattle.sd_base.proofs.Positions.{not_placed, placed}
 use Rattle.node_cache.proofs.Finding.{all_at, got}
-use Rattle.node_cache.proofs.FlushLaws.{empty_within}
 use Rattle.node_cache.proofs.Packing.{first_passes, first_fails}
 use Rattle.node_cache.proofs.PageWrites.{there_is}
 use Rattle.node_cache.proofs.Ranges.{one_between, one_within}
@@ -68,10 +67,7 @@ one_leaves s x pages i full place =
 pub range_leaves : (s : Shape) (x : PageNo) (pages : List CachedPage) (i : ℕ) → Leaves s x pages i → between i (i + 1) pages ≡ leaving s x pages
 range_leaves s x pages i l = one_between i pages l.page l.at ∙ sym l.left
 
--- where it wasn't written, all pages are as they were, and where it was, the others are when it has gone
-pub none_written : (i : ℕ) (old new : List CachedPage) → (n : ℕ) × (i ≤ n) × (n < i + 1) × IsWrittenWithin i n old new → new ≡ old
-none_written i old new (n, low, high, is) = let first : n ≡ i = omega (arith, low, high) in empty_within i old new (subst (λ m. IsWrittenWithin i m old new) first is)
-
+-- where it was written, the others are there when it has gone
 pub written_gone : (s : Shape) (x : PageNo) (old new : List CachedPage) (i : ℕ) → Leaves s x old i → IsWrittenWithin i (i + 1) old new → remove new i ≡ staying s x old
 written_gone s x old new i l is = ap (λ ps. remove ps i) (one_within i old new l.page l.at is) ∙ set_gone old i (written_back l.page) ∙ sym l.stayed
 

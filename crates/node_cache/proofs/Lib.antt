@@ -19,3 +19,9 @@ pub mod RoomLaws
 pub mod ArrivedTie
 pub mod Owning
 pub mod ChangedPages
+pub mod Giving
+pub mod OtherLogs
+pub mod SendOrder
+pub mod RecordTie
+pub mod StoppedCache
+pub mod Fetched

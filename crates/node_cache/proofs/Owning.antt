@@ -1,8 +1,8 @@
 -- Whose the pages are, as one comes into a cache and another one leaves it.
-use Rattle.std.specs.Prelude.{◌≡◌, ◌≢◌, ◌⊎◌, ◌↔◌, ◌<◌, ◌++◌, ℕ, zero, suc, Bool, true, false, IsTrue, List, [], ◌∷◌, Option, Some, None, All, AllPairs, is_some, length, slice_index_or, slice_set, refl}
+use Rattle.std.specs.Prelude.{◌≡◌, ◌≢◌, ◌⊎◌, ◌↔◌, ◌<◌, ◌++◌, ℕ, suc, true, false, IsTrue, List, [], ◌∷◌, Option, Some, None, All, AllPairs, is_some, length, slice_index_or, slice_set, refl}
 use Rattle.std.specs.List.{find, remove, slice_get}
 use Rattle.std.specs.Option.{option_or}
-use Rattle.std.proofs.Common.{arith, inl, inr, ap, subst, subst₂, sym, ◌∙◌, get_or-set_same, get_or-set_other}
+use Rattle.std.proofs.Common.{arith, inl, inr, ap, subst₂, sym, ◌∙◌, get_or-set_same, get_or-set_other}
 use Rattle.std.proofs.lemmas.Bool.{cases_eq}
 use Rattle.std.proofs.lemmas.List.{set-set, set_comm}
 use Rattle.std.proofs.lemmas.List.Folds.{find-append}
@@ -19,7 +19,7 @@ use Rattle.node_cache.proofs.Finding.{all_at}
 use Rattle.node_cache.proofs.Leaving.{who_leaves}
 use Rattle.node_cache.proofs.OnePage.{is_page-other}
 use Rattle.node_cache.proofs.Parking.{length-parked}
-use Rattle.node_cache.proofs.Without.{others_apart, out_within}
+use Rattle.node_cache.proofs.Without.{other_found, others_apart, out_within}
 
 -- the pages are those that are out at this node
 abbrev pub ArePages : List Own → NodeId → List CachedPage → Type 0
@@ -52,16 +52,7 @@ parked_then x first then pages owners others = parked_set x then pages (slice_se
 
 -- another page is cached as before when one is gone, and when one has come
 cached_without : (y : PageNo) (pages : List CachedPage) (i : ℕ) (p : CachedPage) → slice_get pages i ≡ Some p → p.ticket.page ≢ y → is_some (page_at y (remove pages i)) ≡ is_some (page_at y pages)
-cached_without y [] i p at other = cc
-cached_without y (q ∷ qs) zero p at other =
-    let same : q ≡ p = cc in
-    let not : is_page y q ≡ false = is_page-other y q (subst (λ r. r.ticket.page ≢ y) (sym same) other) in
-    rw not refl
-cached_without y (q ∷ qs) (suc i) p at other = by (is_page y q) refl (cached_without y qs i p at other)
-  where
-    by : (b : Bool) → is_page y q ≡ b → is_some (page_at y (remove qs i)) ≡ is_some (page_at y qs) → is_some (page_at y (q ∷ remove qs i)) ≡ is_some (page_at y (q ∷ qs))
-    by true is rest = rw is refl
-    by false is rest = rw is rest
+cached_without y pages i p at other = ap is_some (other_found pages i p y at other)
 
 cached_with : (y : PageNo) (pages : List CachedPage) (p : CachedPage) → p.ticket.page ≢ y → is_some (page_at y (pages ++ p ∷ [])) ≡ is_some (page_at y pages)
 cached_with y pages p other = ap is_some (find-append (is_page y) pages (p ∷ [])) ∙ by (page_at y pages)
@@ -71,36 +62,36 @@ cached_with y pages p other = ap is_some (find-append (is_page y) pages (p ∷ [
     by (Some q) = refl
 
 -- a page is x or another one
-this_or_other : (x y : PageNo) → (y ≡ x) ⊎ (y ≢ x)
+pub this_or_other : (x y : PageNo) → (y ≡ x) ⊎ (y ≢ x)
 this_or_other x y = elim (cases_eq y.0 x.0) [
   | inl same ↦ inl (ap (λ n. record { 0 = n }) same)
   | inr other ↦ inr (λ same. other (ap (λ p. p.0) same))
 ]
 
--- the pages after one has gone and is parked
-pages_without : (owners : List Own) (n : NodeId) (pages : List CachedPage) (i : ℕ) (p : CachedPage) → AllPairs (λ p q. p.ticket.page ≢ q.ticket.page) pages → slice_get pages i ≡ Some p → p.ticket.page.0 < length owners
-    → ArePages owners n pages → ArePages (slice_set owners p.ticket.page.0 (Parked p.ticket.node)) n (remove pages i)
-pages_without owners n pages i p once at within are y = elim (this_or_other p.ticket.page y) [
+-- the pages after one has gone, and isn't out at the node any more
+pub pages_without : (owners : List Own) (n : NodeId) (pages : List CachedPage) (i : ℕ) (p : CachedPage) (own : Own) → own ≢ Out n → AllPairs (λ p q. p.ticket.page ≢ q.ticket.page) pages → slice_get pages i ≡ Some p → p.ticket.page.0 < length owners
+    → ArePages owners n pages → ArePages (slice_set owners p.ticket.page.0 own) n (remove pages i)
+pages_without owners n pages i p own never once at within are y = elim (this_or_other p.ticket.page y) [
   | inl same ↦
-      let parks : owner_of (slice_set owners p.ticket.page.0 (Parked p.ticket.node)) y.0 ≡ Parked p.ticket.node =
-      ap (λ z. owner_of (slice_set owners p.ticket.page.0 (Parked p.ticket.node)) z.0) same ∙ get_or-set_same owners p.ticket.page.0 (Parked p.ticket.node) Nobody within in
+      let now : owner_of (slice_set owners p.ticket.page.0 own) y.0 ≡ own =
+      ap (λ z. owner_of (slice_set owners p.ticket.page.0 own) z.0) same ∙ get_or-set_same owners p.ticket.page.0 own Nobody within in
       let gone : is_some (page_at y (remove pages i)) ≡ false = ap (λ z. is_some (page_at z (remove pages i))) same ∙ not_found p.ticket.page (remove pages i) (others_apart (λ q. q.ticket.page) pages i p once at) in
-      (λ out. cc, λ cached. cc)
+      (λ out. absurd (never (sym now ∙ out)), λ cached. cc)
   | inr other ↦
-      let owner = other_owner owners p.ticket.page y (Parked p.ticket.node) other in
+      let owner = other_owner owners p.ticket.page y own other in
       let cached = cached_without y pages i p at (λ same. other (sym same)) in
       (λ out. cached ∙ (are y).0 (sym owner ∙ out), λ some. owner ∙ (are y).1 (sym cached ∙ some))
 ]
 
--- after the page x was parked, which isn't cached
-pub pages_parked : (owners : List Own) (n : NodeId) (pages : List CachedPage) (x : PageNo) → x.0 < length owners → is_some (page_at x pages) ≡ false → ArePages owners n pages → ArePages (slice_set owners x.0 (Parked n)) n pages
-pages_parked owners n pages x within none are y = elim (this_or_other x y) [
+-- after the page x, which isn't cached, was given to somebody, and isn't out at the node
+pub pages_beside : (owners : List Own) (n : NodeId) (pages : List CachedPage) (x : PageNo) (own : Own) → own ≢ Out n → x.0 < length owners → is_some (page_at x pages) ≡ false → ArePages owners n pages → ArePages (slice_set owners x.0 own) n pages
+pages_beside owners n pages x own never within none are y = elim (this_or_other x y) [
   | inl same ↦
-      let parks : owner_of (slice_set owners x.0 (Parked n)) y.0 ≡ Parked n = ap (λ z. owner_of (slice_set owners x.0 (Parked n)) z.0) same ∙ get_or-set_same owners x.0 (Parked n) Nobody within in
+      let now : owner_of (slice_set owners x.0 own) y.0 ≡ own = ap (λ z. owner_of (slice_set owners x.0 own) z.0) same ∙ get_or-set_same owners x.0 own Nobody within in
       let gone : is_some (page_at y pages) ≡ false = ap (λ z. is_some (page_at z pages)) same ∙ none in
-      (λ out. cc, λ cached. cc)
+      (λ out. absurd (never (sym now ∙ out)), λ cached. cc)
   | inr other ↦
-      let owner = other_owner owners x y (Parked n) other in
+      let owner = other_owner owners x y own other in
       (λ out. (are y).0 (sym owner ∙ out), λ some. owner ∙ (are y).1 some)
 ]
 
@@ -126,7 +117,7 @@ pages_stay s x owners n pages once owned are = elim (who_leaves s x pages) [
   | inr one ↦
       let l = one.1 in
       subst₂ (λ left stayed. ArePages (parked left owners) n stayed) (sym l.left) (sym l.stayed)
-      (pages_without owners n pages one.0 l.page once l.at (out_within owners l.page.ticket.page.0 l.page.ticket.node (all_at (λ p. owner_of owners p.ticket.page.0 ≡ Out p.ticket.node) pages one.0 l.page owned l.at)) are)
+      (pages_without owners n pages one.0 l.page (Parked l.page.ticket.node) (λ e. cc) once l.at (out_within owners l.page.ticket.page.0 l.page.ticket.node (all_at (λ p. owner_of owners p.ticket.page.0 ≡ Out p.ticket.node) pages one.0 l.page owned l.at)) are)
 ]
 
 -- The page x was given to the node, and these pages left: whose x is then, and when it was parked again.
@@ -150,7 +141,7 @@ pub owned_missed : (x : PageNo) (left stayed : List CachedPage) (old new : List 
     → All (λ q. q.ticket.page ≢ x) left → All (λ q. q.ticket.page ≢ x) stayed → ArePages (parked left owners) c.node stayed → AreOwned final c
 owned_missed x left stayed old new owners final c missed within others none are =
     let is : final ≡ slice_set (parked left owners) x.0 (Parked c.node) = missed.parks ∙ sym (parked_set x (Parked c.node) left owners others) in
-    subst₂ (λ o ps. ArePages o c.node ps) (sym is) (sym missed.pages) (pages_parked (parked left owners) c.node stayed x (omega (arith, within, length-parked left owners)) (not_found x stayed none) are)
+    subst₂ (λ o ps. ArePages o c.node ps) (sym is) (sym missed.pages) (pages_beside (parked left owners) c.node stayed x (Parked c.node) (λ e. cc) (omega (arith, within, length-parked left owners)) (not_found x stayed none) are)
 
 pub owned_arrived : (p : CachedPage) (left stayed : List CachedPage) (owners given final : List Own) (c : CacheState) → c.pages ≡ stayed ++ p ∷ [] → given ≡ slice_set owners p.ticket.page.0 (Out c.node) → final ≡ parked left given
     → p.ticket.page.0 < length owners → All (λ q. q.ticket.page ≢ p.ticket.page) left → All (λ q. q.ticket.page ≢ p.ticket.page) stayed → ArePages (parked left owners) c.node stayed → AreOwned final c

@@ -1,7 +1,7 @@
 -- What is left of the device and the log by a call that makes room and a read behind it. Here a are the blocks before
 -- both, b those between them, and c those after the read.
 use Rattle.std.specs.Prelude.{◌≡◌, ◌≢◌, ◌⊎◌, ◌≤◌, ◌+◌, ℕ, List, Option, Some, None, All, Any}
-use Rattle.std.proofs.Common.{arith, inl, inr, subst, sym, ◌∙◌}
+use Rattle.std.proofs.Common.{inl, inr, subst, sym, ◌∙◌}
 use Rattle.sd_base.specs.Disk.{BlockState, IsFreeFor, IsLawful, IsOutcome}
 use Rattle.sd_base.specs.Calls.{Narrows, NoNewWriter, NoNewWriterBut, KeepsForeign}
 use Rattle.sd_base.specs.declared.names.PageNo.{PageNo}
@@ -17,7 +17,6 @@ use Rattle.node_cache.specs.Cache.{CachedPage, CacheState, IsOfStore, IsTiedToLo
 use Rattle.node_cache.specs.Writes.{IsBlockOf, IsWrittenAhead, KeepsContentsButPages, KeepsForeignButPages, NarrowsButPages}
 use Rattle.node_cache.proofs.DiskTie.{not_in_ring}
 use Rattle.node_cache.proofs.PageWrites.{one_place}
-use Rattle.node_cache.proofs.WriteAhead.{stable_below}
 
 -- a read adds no outcome, and leaves what the port had not written
 pub narrows_then : (s : Shape) (l : LogState) (pool : List (Option (List ℕ))) (pages : List CachedPage) (a b c : ℕ → BlockState) → NarrowsButPages s l pool pages a b → Narrows b c → NarrowsButPages s l pool pages a c
@@ -58,22 +57,16 @@ same_writer s c x n a b store tie writers none = elim (writers (page_place s x))
   | inr (inr here) ↦ absurd (not_in_ring s c store tie _ x here.0)
 ]
 
--- no fewer records are stable after a call that leaves as many so, or makes all so
-pub more_stable : (l m : LogState) (b : ℕ → BlockState) (xs : List (List ℕ)) → (m.stable ≡ l.stable) ⊎ (m.stable ≡ l.tail) → IsLogOn l b xs → l.stable ≤ m.stable
-more_stable l m b xs (inl same) on = omega (arith, same)
-more_stable l m b xs (inr all) on = omega (arith, all, stable_below l b xs on)
-
--- the log l was on the device before, m between the calls: what a read leaves in which the port stopped, and what any
+-- the log was l before both calls, and is m between them: what a read leaves in which the port stopped, and what any
 -- settled device holds after a read
-pub cut_then : (l m : LogState) (n : ℕ) (a b c : ℕ → BlockState) (xs : List (List ℕ)) → ((k : ℕ) → IsLawful c k) → SameLog l m → (m.stable ≡ l.stable) ⊎ (m.stable ≡ l.tail)
-    → IsLogOn l a xs → IsLogOn m b xs → IsFreeRegion (region m) n b → Narrows b c → NoNewWriter b c → HasSettled n c → IsCutLog (region l) l.start l.stable c xs
-cut_then l m n a b c xs law same stable on between free narrows writers settled =
-    cut_since l m c xs same (more_stable l m a xs stable on) (on_stilled m b c xs law (λ i o within. narrows _ o) (settled_still (region m) n b c free writers settled) between)
+pub cut_then : (l m : LogState) (n : ℕ) (b c : ℕ → BlockState) (xs : List (List ℕ)) → ((k : ℕ) → IsLawful c k) → SameLog l m → l.stable ≤ m.stable → IsLogOn m b xs
+    → IsFreeRegion (region m) n b → Narrows b c → NoNewWriter b c → HasSettled n c → IsCutLog (region l) l.start l.stable c xs
+cut_then l m n b c xs law same rises between free narrows writers settled =
+    cut_since l m c xs same rises (on_stilled m b c xs law (λ i o within. narrows _ o) (settled_still (region m) n b c free writers settled) between)
 
-pub outcome_then : (l m : LogState) (a b c : ℕ → BlockState) (xs : List (List ℕ)) (image : ℕ → Option (List ℕ)) → SameLog l m → (m.stable ≡ l.stable) ⊎ (m.stable ≡ l.tail)
-    → IsLogOn l a xs → IsLogOn m b xs → Narrows b c → IsOutcome c image → HoldsFront (region l) l.start l.stable xs image
-outcome_then l m a b c xs image same stable on between narrows out =
-    on_outcome_since l m b xs image same (more_stable l m a xs stable on) between (λ k. narrows k (image k) (out k))
+pub outcome_then : (l m : LogState) (b c : ℕ → BlockState) (xs : List (List ℕ)) (image : ℕ → Option (List ℕ)) → SameLog l m → l.stable ≤ m.stable → IsLogOn m b xs → Narrows b c → IsOutcome c image → HoldsFront (region l) l.start l.stable xs image
+outcome_then l m b c xs image same rises between narrows out =
+    on_outcome_since l m b xs image same rises between (λ k. narrows k (image k) (out k))
 
 -- and in the words from before both calls
 pub still_before : (l m : LogState) (c : ℕ → BlockState) → SameLog l m → IsStill (region m) c → IsStill (region l) c

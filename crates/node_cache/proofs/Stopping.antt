@@ -32,3 +32,10 @@ stays_then T (Stopped n) p g = tt
 stays_then T (Failed n) p g = tt
 stays_then T (Lost at) p g = g p
 stays_then T (Damaged at) p g = g p
+
+pub stopped_then : {T P Q : Type 0} (r : Result T DevFault) → IfErr r (λ f. OnStop f P) → (P → Q) → IfErr r (λ f. OnStop f Q)
+stopped_then (Ok x) p g = tt
+stopped_then (Err (Stopped n)) p g = g p
+stopped_then (Err (Failed n)) p g = g p
+stopped_then (Err (Lost at)) p g = tt
+stopped_then (Err (Damaged at)) p g = tt

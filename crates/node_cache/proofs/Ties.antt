@@ -1,8 +1,9 @@
 -- The tie of a cache to its log, through calls of the log.
-use Rattle.std.specs.Prelude.{◌≡◌, ◌≤◌, ◌+◌, Option, Some, None}
-use Rattle.std.proofs.Common.{arith, subst, sym, ◌∙◌}
+use Rattle.std.specs.Prelude.{◌≡◌, ◌≢◌, ◌≤◌, ◌+◌, ◌%◌, Option, Some, None}
+use Rattle.std.proofs.Common.{arith, inl, inr, subst, sym, ◌∙◌}
+use Rattle.std.proofs.lemmas.Bool.{cases_eq}
 use Rattle.sd_base.specs.declared.names.PageNo.{PageNo}
-use Rattle.private_log.specs.Log.{LogState, IsLog, SameLog}
+use Rattle.private_log.specs.Log.{LogState, IsLog, SameLog, written}
 use Rattle.node_cache.specs.Cache.{Changes, CacheState, IsInLog, IsTiedToLog, with_change, changed_by, with_page}
 use Rattle.node_cache.proofs.OnePage.{all_with}
 
@@ -13,6 +14,13 @@ in_longer l m same longer (Some c) inside = let start = same.start in (omega (ar
 
 pub tied_longer : (c : CacheState) (m : LogState) → SameLog c.log m → c.log.tail ≤ m.tail → IsTiedToLog c → IsTiedToLog (record { log = m; node = c.node; pages = c.pages })
 tied_longer c m same longer tie = record { node = same.node ∙ tie.node; changes = λ i d below. in_longer c.log m same longer _ (tie.changes i d below) }
+
+-- no record is less stable than before, when one more was appended
+pub rises_logged : (l m : LogState) → ((l.tail + 1) % 6 ≢ 0 → m.stable ≡ l.stable) → ((l.tail + 1) % 6 ≡ 0 → m.stable ≡ written l) → l.stable ≤ m.stable
+rises_logged l m memory full = elim (cases_eq ((l.tail + 1) % 6) 0) [
+  | inl zero ↦ (let is = full zero in omega (arith, is))
+  | inr more ↦ (let is = memory more in omega (arith, is))
+]
 
 -- one more record of the page x stands at the end of the log
 changed_in : (l m : LogState) → IsLog l → SameLog l m → m.tail ≡ l.tail + 1 → (changes : Option Changes) → IsInLog l changes → IsInLog m (with_change l.tail changes)

@@ -1,5 +1,5 @@
 -- The pages of a cache without one of them.
-use Rattle.std.specs.Prelude.{◌≡◌, ◌≢◌, ◌<◌, ◌+◌, ◌++◌, ℕ, suc, List, Option, Some, None, All, AllPairs, is_some, length, slice_index_or, slice_set, take, drop}
+use Rattle.std.specs.Prelude.{◌≡◌, ◌≢◌, ◌<◌, ◌+◌, ◌++◌, ℕ, zero, suc, Bool, true, false, List, [], ◌∷◌, Option, Some, None, All, AllPairs, is_some, refl, length, slice_index_or, slice_set, take, drop}
 use Rattle.std.specs.List.{remove, slice_get}
 use Rattle.std.proofs.Common.{arith, inl, inr, ap, sym, subst, ◌∙◌}
 use Rattle.std.proofs.lemmas.Bool.{cases_lt}
@@ -8,6 +8,7 @@ use Rattle.std.proofs.lemmas.List.Edits.{length-remove, get_or-remove_below, get
 use Rattle.std.proofs.lemmas.List.Quantifiers.{all_pairs_remove}
 use Rattle.sd_base.specs.Disk.{BlockState}
 use Rattle.sd_base.specs.declared.device.NodeId.{NodeId}
+use Rattle.sd_base.specs.declared.names.PageNo.{PageNo}
 use Rattle.sd_base.specs.declared.shape.Shape.{Shape}
 use Rattle.frame_pool.specs.Frames.{IsOut, frame_at}
 use Rattle.page_owner.specs.declared.owners.Own.{Own}
@@ -16,8 +17,9 @@ use Rattle.page_owner.specs.Owners.{owner_of}
 use Rattle.state_ids.specs.Blocks.{ShowsPage}
 use Rattle.state_ids.specs.Held.{Shows}
 use Rattle.state_ids.specs.PageImage.{PageImage, in_life}
-use Rattle.node_cache.specs.Cache.{CachedPage, CacheState, IsCache, IsInLife, IsInLog, IsTiedToDisk, IsTiedToLog, StandsFor}
+use Rattle.node_cache.specs.Cache.{CachedPage, CacheState, IsCache, IsInLife, IsInLog, IsTiedToDisk, IsTiedToLog, StandsFor, is_page, page_at}
 use Rattle.node_cache.proofs.Finding.{got}
+use Rattle.node_cache.proofs.OnePage.{is_page-other}
 use Rattle.node_cache.proofs.Parking.{is_within}
 
 -- what holds of each page holds of each that is left
@@ -46,6 +48,16 @@ cache_without node pages i within is = record {
   once = all_pairs_remove (λ p q. p.ticket.page ≢ q.ticket.page) pages i within is.once;
   apart = all_pairs_remove (λ p q. p.frame ≢ q.frame) pages i within is.apart;
 }
+
+-- another page is found where one has gone
+pub other_found : (pages : List CachedPage) (i : ℕ) (p : CachedPage) (y : PageNo) → slice_get pages i ≡ Some p → p.ticket.page ≢ y → page_at y (remove pages i) ≡ page_at y pages
+other_found [] i p y at other = cc
+other_found (q ∷ pages) zero p y at other = let same : q ≡ p = cc in sym (subst (λ r. page_at y (r ∷ pages) ≡ page_at y pages) (sym same) (rw (is_page-other y p other) refl))
+other_found (q ∷ pages) (suc i) p y at other = by (is_page y q) refl (other_found pages i p y at other)
+  where
+    by : (b : Bool) → is_page y q ≡ b → page_at y (remove pages i) ≡ page_at y pages → page_at y (remove (q ∷ pages) (suc i)) ≡ page_at y (q ∷ pages)
+    by true is rest = rw is refl
+    by false is rest = rw is rest
 
 -- a page that is out is one of the table
 pub out_within : (owners : List Own) (x : ℕ) (n : NodeId) → owner_of owners x ≡ Out n → x < length owners

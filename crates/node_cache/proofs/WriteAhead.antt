@@ -3,7 +3,7 @@ use Rattle.std.specs.Prelude.{◌≡◌, ◌≢◌, ◌⊎◌, ◌≤◌, ◌<�
 use Rattle.std.proofs.Common.{arith, inl, inr, ap, subst, sym, ◌∙◌}
 use Rattle.std.proofs.lemmas.Bool.{cases_lt, cases_order}
 use Rattle.std.proofs.lemmas.List.{length-take, get_or_default}
-use Rattle.sd_base.specs.Disk.{BlockState, Holds, IsLawful, IsOutcome}
+use Rattle.sd_base.specs.Disk.{BlockState, Holds, IsLawful, IsOutcome, MayHold}
 use Rattle.sd_base.specs.declared.device.NodeId.{NodeId}
 use Rattle.sd_base.specs.declared.shape.Shape.{Shape}
 use Rattle.frame_pool.specs.Frames.{frame_at}
@@ -15,11 +15,13 @@ use Rattle.private_log.proofs.Outcomes.{cut_outcome}
 use Rattle.private_log.proofs.WholeLogs.{whole_on, whole_cut}
 use Rattle.state_ids.specs.Held.{Shows}
 use Rattle.state_ids.specs.Blocks.{ShowsPage, page_place}
-use Rattle.node_cache.specs.Cache.{CachedPage, CacheState, IsInLife, IsOfStore, IsTiedToDisk, IsTiedToLog, StandsFor}
+use Rattle.node_cache.specs.Cache.{CachedPage, CacheState, IsInLife, IsOfStore, IsTiedToDisk, IsTiedToLog, StandsFor, first_change}
 use Rattle.node_cache.specs.Places.{between, IsWrittenWithin}
+use Rattle.node_cache.specs.Records.{IsBefore}
 use Rattle.node_cache.specs.Writes.{HoldsPages, NarrowsToPages}
 use Rattle.node_cache.proofs.DiskTie.{not_in_region}
 use Rattle.node_cache.proofs.PageWrites.{changed_or_not, one_place}
+use Rattle.node_cache.proofs.RecordTie.{AreBefore, before_narrowed}
 use Rattle.node_cache.proofs.Ranges.{all_between, at_between, length_between, same_within}
 use Rattle.node_cache.proofs.SamePages.{all_same}
 
@@ -58,7 +60,7 @@ module _ (s : Shape) (old : CacheState) (m : LogState) (pool : List (Option (Lis
   log_cut low = less_cut (region old.log) old.log.start old.log.tail old.log.stable c xs low whole
 
 -- pages with one number stand at one place
-one_index : (pages : List CachedPage) (i j : ℕ) (d : CachedPage) → AllPairs (λ p q. p.ticket.page ≢ q.ticket.page) pages → i < length pages → j < length pages
+pub one_index : (pages : List CachedPage) (i j : ℕ) (d : CachedPage) → AllPairs (λ p q. p.ticket.page ≢ q.ticket.page) pages → i < length pages → j < length pages
     → (slice_index_or pages i d).ticket.page ≡ (slice_index_or pages j d).ticket.page → i ≡ j
 one_index pages i j d once below below' same = elim (cases_order i j) [
   | inl here ↦ here
@@ -87,6 +89,33 @@ module _ (s : Shape) (pool : List (Option (List ℕ))) (from to : ℕ) (pages ne
       let p : CachedPage = slice_index_or pages i d in
       let held : o ≡ frame_at pool p.frame = all_between (λ q. q.changes ≢ None → Holds c (page_place s q.ticket.page) (frame_at pool q.frame)) from to i pages d high low below' holds some o may in
       inr (shown.0, (shown.1.bytes, held ∙ shown.1.held, shown.1.text, shown.2, shown.3), subst (Shows pool p.frame) (sym (life shown.0 shown.1 shown.2)) shown.1)
+
+  -- a page with changes that wasn't written has no new outcome
+  outside : (i : ℕ) (d : CachedPage) → i < length pages → (i < from) ⊎ (to ≤ i) → (o : Option (List ℕ)) → MayHold c (page_place s (slice_index_or pages i d).ticket.page) o → MayHold b (page_place s (slice_index_or pages i d).ticket.page) o
+  outside i d below beside o may = elim (narrows _ o may) [
+    | inl was ↦ was
+    | inr (j, q, lt, at, image) ↦
+        let small : j < to - from = omega (arith, lt, length_between from to pages high) in
+        let there : slice_index_or pages (from + j) d ≡ q = get_or_default pages (from + j) d q (omega (arith, small, high)) ∙ sym (at_between from to j pages q high small) ∙ at in
+        let place : i ≡ from + j = one_index pages i (from + j) d once below (omega (arith, small, high)) (one_place s _ _ image.0.1 ∙ sym (ap (λ p. p.ticket.page) there)) in
+        absurd (elim beside [ inl before ↦ omega (arith, before, place) | inr behind ↦ omega (arith, behind, place, small) ])
+  ]
+
+  pub before_written : (start : ℕ) (xs : List (List ℕ)) → AreBefore s start xs b pages → AreBefore s start xs c new
+  before_written start xs was i d below number first = by (cases_lt i from) (cases_lt i to)
+    where
+      low : i < length pages
+      low = omega (arith, below, is.count)
+
+      kept : (i < from) ⊎ (to ≤ i) → IsBefore s start xs c (slice_index_or new i d) number
+      kept beside =
+          let same = is.outside i d beside in
+          subst (λ p. IsBefore s start xs c p number) (sym same) (before_narrowed s start xs b c (slice_index_or pages i d) number (outside i d low beside) (was i d low number (sym (ap first_change same) ∙ first)))
+
+      by : (i < from) ⊎ (from ≤ i) → (i < to) ⊎ (to ≤ i) → IsBefore s start xs c (slice_index_or new i d) number
+      by (inl before) high' = kept (inl before)
+      by (inr low') (inr behind) = kept (inr behind)
+      by (inr low') (inl below') = let never = sym (ap first_change (is.inside i d low' below' low)) ∙ first in absurd cc
 
   pub tied_written : (log : LogState) (node : NodeId) → IsTiedToDisk s pool (record { log = log; node = node; pages = pages }) b → IsTiedToDisk s pool (record { log = log; node = node; pages = new }) c
   tied_written log node tie = record {

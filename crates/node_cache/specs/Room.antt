@@ -13,7 +13,7 @@ use Rattle.page_owner.specs.declared.owners.Own.TheVariants.{Nobody, Parked, Out
 use Rattle.state_ids.specs.PageImage.{map_page}
 use Rattle.state_ids.specs.Held.{Shows}
 use Rattle.state_ids.specs.Blocks.{ShowsPage}
-use Rattle.node_cache.specs.Cache.{CachedPage, CacheState, page_at}
+use Rattle.node_cache.specs.Cache.{CachedPage, CacheState, page_at, place_of}
 
 -- whether x is a data page, and m the map page that has its entry
 abbrev pub is_map_of : Shape → PageNo → PageNo → Bool
@@ -44,6 +44,14 @@ staying s x pages = if nat_lt (length pages) 16 then pages else without (positio
     without None = pages
     without (Some i) = remove pages i
 
+-- the pages without the page x
+abbrev pub without_page : PageNo → List CachedPage → List CachedPage
+without_page x pages = without (place_of x pages)
+  where
+    without : Option ℕ → List CachedPage
+    without None = pages
+    without (Some i) = remove pages i
+
 -- the frames of these pages are free
 abbrev pub freed : List CachedPage → List (Option (List ℕ)) → List (Option (List ℕ))
 freed pages pool = fold (λ frames p. slice_set frames p.frame None) pool pages
@@ -61,6 +69,10 @@ given_up n (Out m) = if m.0 == n.0 then Parked m else Out m
 -- a node may have the page: it is nobody's, or the node's
 abbrev pub IsOpenTo : NodeId → Own → Type 0
 IsOpenTo n own = (own ≡ Nobody) ⊎ (own ≡ Parked n) ⊎ (own ≡ Out n)
+
+-- the node has the page
+abbrev pub IsHeldBy : NodeId → Own → Type 0
+IsHeldBy n own = (own ≡ Parked n) ⊎ (own ≡ Out n)
 
 -- The page x came in behind those that stayed, unchanged, in a frame that was free, and no other frame was written.
 pub record Arrived (s : Shape) (x : PageNo) (e : Option MapEntry) (stayed : List CachedPage) (old : List (Option (List ℕ))) (c : CacheState) (new : List (Option (List ℕ))) : Type 0 where

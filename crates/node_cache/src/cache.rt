@@ -3,6 +3,7 @@
 ghost use Rattle.std.specs.Prelude.{◌≡◌, [], All, IfNone, IfSome, IsTrue, Some};
 ghost use Rattle.std.specs.Borrow.{sem};
 ghost use Rattle.frame_pool.specs.Frames.{frame_at};
+ghost use Rattle.private_log.specs.Log.{IsLog};
 ghost use Rattle.node_cache.specs.Cache.{AreOut, IsCache, IsLeastChange, is_cached, is_changed, page_at};
 
 use crate::pages::Pages;
@@ -54,6 +55,13 @@ impl NodeCache {
         ensures { IsCache self.now.node self.now.pages }
     {
         let _ = &self.node;
+    }
+
+    /// What each log is: its numbers are in order, and no record that is stable is behind the last one.
+    pub fn law_of_log(&self)
+        ensures { IsLog self.now.log }
+    {
+        let _ = self.log.tail();
     }
 
     /// Whether a page is cached.

@@ -17,6 +17,7 @@ ghost use Rattle.private_log.specs.Log.{region, next_place, space, written, Same
 ghost use Rattle.state_ids.specs.PageImage.{PageImage, is_map, is_map_op, changed};
 ghost use Rattle.state_ids.specs.Held.{Shows, KeepsFrames};
 ghost use Rattle.node_cache.specs.Cache.{CachedPage, AreOut, AreShown, FitsCached, IsOfStore, IsTiedToLog, IsTiedToDisk, changed_by, page_at, with_page};
+ghost use Rattle.node_cache.specs.Records.{IsTiedToRecords};
 
 use crate::cache::NodeCache;
 use frame_pool::Pool;
@@ -27,6 +28,7 @@ use state_ids::{Logged, log_page};
 impl NodeCache {
     /// Makes the change of a log record to its page.
     fn apply(&mut self, pool: &mut Pool, l: Logged)
+        requires node { l.node ≡ self.old.node }
         requires fits { FitsCached pool.old self.old.pages l.page l.ident l.op }
         ensures log { self.new.log ≡ self.old.log }
         ensures node { self.new.node ≡ self.old.node }
@@ -75,11 +77,13 @@ impl NodeCache {
         ensures memory { (self.old.log.tail + 1) % 6 ≢ 0 → disk.new ≡ disk.old }
         ensures sure { (self.old.log.tail + 1) % 6 ≢ 0 → IsOk result }
         ensures number { IfOk result (λ number. number ≡ self.old.log.tail) }
+        ensures legal { IsLegal rec.now }
         ensures node { self.new.node ≡ self.old.node }
         ensures same { SameLog self.old.log self.new.log }
         ensures tail { OnOk result (self.new.log.tail ≡ self.old.log.tail + 1) }
         ensures stable_in_memory { OnOk result ((self.old.log.tail + 1) % 6 ≢ 0 → self.new.log.stable ≡ self.old.log.stable) }
         ensures stable_written { OnOk result ((self.old.log.tail + 1) % 6 ≡ 0 → self.new.log.stable ≡ written self.old.log) }
+        ensures rises { OnOk result (self.old.log.stable ≤ self.new.log.stable) }
         ensures pages { OnOk result ((x : PageNo) (ident : ℕ) (op : PageOp) → page_op_of rec.now ≡ Some (x, ident, op) → self.new.pages ≡ with_page x (changed_by self.old.log.tail) self.old.pages) }
         ensures pages_kept { OnErr result (self.new.pages ≡ self.old.pages) }
         ensures frames { (x : PageNo) (ident : ℕ) (op : PageOp) (p : CachedPage) → page_op_of rec.now ≡ Some (x, ident, op) → page_at x self.old.pages ≡ Some p → KeepsFrames p.frame pool.old pool.new }
@@ -89,6 +93,8 @@ impl NodeCache {
         ensures shown { (s : Shape) → AreShown s pool.old self.old → AreShown s pool.new self.new }
         ensures log_tie { OnOk result (IsTiedToLog self.new) }
         ensures disk_tie { OnOk result (IsTrue D.told → (s : Shape) → IsOfStore s self.old → IsTiedToDisk s pool.old self.old (D.state disk.old).block → IsTiedToDisk s pool.new self.new (D.state disk.new).block) }
+        ensures record_tie { OnOk result (IsTrue D.told → (s : Shape) (xs : List (List ℕ)) → IsOfStore s self.old → IsTiedToDisk s pool.old self.old (D.state disk.old).block → IsTiedToRecords s self.old (D.state disk.old).block xs
+            → IsTiedToRecords s self.new (D.state disk.new).block (xs ++ record_text rec.now ∷ [])) }
         ensures free { OnOk result (IsTrue D.told → IsFreeRegion (region self.new.log) self.old.node.0 (D.state disk.new).block) }
         ensures still { OnErr result (IsTrue D.told → IsStill (region self.old.log) (D.state disk.new).block) }
         ensures log { OnOk result (IsTrue D.told → (xs : List (List ℕ)) → IsLogOn self.old.log (D.state disk.old).block xs → IsLogOn self.new.log (D.state disk.new).block (xs ++ record_text rec.now ∷ [])) }

@@ -78,6 +78,7 @@ impl Pages {
     /// Ends the stay of all pages, at a node whose port has stopped.
     fn wreck<D: Disk>(mut self, disk: &D, n: NodeId, pool: &mut Pool, owners: &mut Owners)
         requires port { IsPort n.0 }
+        requires own { All (λ p. p.ticket.node ≡ n) self }
         requires stopped { (D.state disk.now).live n.0 ≡ false }
         requires out { All (λ p. IsOut pool.old p.frame) self }
         requires apart { AllPairs (λ p q. p.frame ≢ q.frame) self }

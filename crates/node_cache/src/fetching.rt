@@ -18,6 +18,7 @@ ghost use Rattle.state_ids.specs.PageImage.{PageImage, in_life};
 ghost use Rattle.state_ids.specs.Held.{Shows};
 ghost use Rattle.state_ids.specs.Blocks.{FitsPage, HasSettled, HoldsPage, IsPageFault, IsToldOfPage, UnlessStopped, page_place};
 ghost use Rattle.node_cache.specs.Cache.{AreOut, AreOwned, AreShown, CachedPage, IsOfStore, IsTiedToDisk, IsTiedToLog, is_cached, page_at};
+ghost use Rattle.node_cache.specs.Records.{IsTiedToRecords};
 ghost use Rattle.node_cache.specs.Room.{Arrived, IsEntryOf, IsOpenTo, Missed, freed, is_map_of, leaving, may_go, parked, staying};
 ghost use Rattle.node_cache.specs.Writes.{AreFree, AreInReach, HoldsPages, IsWrittenAhead, KeepsContentsButPages, KeepsForeignButPages, NarrowsButPages};
 
@@ -116,7 +117,7 @@ impl NodeCache {
         ensures node { self.new.node ≡ self.old.node }
         ensures same { SameLog self.old.log self.new.log }
         ensures tail { self.new.log.tail ≡ self.old.log.tail }
-        ensures stable { OnOk result ((self.new.log.stable ≡ self.old.log.stable) ⊎ (self.new.log.stable ≡ self.old.log.tail)) }
+        ensures rises { OnOk result (self.old.log.stable ≤ self.new.log.stable) }
         ensures pages { OnOk result (self.new.pages ≡ staying s.now x self.old.pages) }
         ensures pages_kept { OnErr result (self.new.pages ≡ self.old.pages) }
         ensures pool { OnOk result (pool.new ≡ freed (leaving s.now x self.old.pages) pool.old) }
@@ -129,6 +130,7 @@ impl NodeCache {
         ensures shown { AreShown s.now pool.old self.old → AreShown s.now pool.new self.new }
         ensures log_tie { IsTiedToLog self.new }
         ensures disk_tie { OnOk result (IsTrue D.told → IsTiedToDisk s.now pool.old self.old (D.state disk.old).block → IsTiedToDisk s.now pool.new self.new (D.state disk.new).block) }
+        ensures record_tie { OnOk result (IsTrue D.told → (xs : List (List ℕ)) → IsTiedToRecords s.now self.old (D.state disk.old).block xs → IsTiedToRecords s.now self.new (D.state disk.new).block xs) }
         ensures outcomes { IsTrue D.told → NarrowsButPages s.now self.old.log pool.old (leaving s.now x self.old.pages) (D.state disk.old).block (D.state disk.new).block }
         ensures writers { IsTrue D.told → NoNewWriterBut (tail_place self.old.log) self.old.node.0 (D.state disk.old).block (D.state disk.new).block }
         ensures foreign { IsTrue D.told → KeepsForeignButPages s.now self.old.log (leaving s.now x self.old.pages) self.old.node.0 (D.state disk.old).block (D.state disk.new).block }
@@ -240,6 +242,7 @@ impl NodeCache {
         ensures node { self.new.node ≡ self.old.node }
         ensures same { SameLog self.old.log self.new.log }
         ensures tail { self.new.log.tail ≡ self.old.log.tail }
+        ensures rises { MatchResult result (λ _. self.old.log.stable ≤ self.new.log.stable) (λ r. UnlessStopped r.0 (self.old.log.stable ≤ self.new.log.stable)) }
         ensures arrived { OnOk result (Arrived s.now ticket.page e (staying s.now ticket.page self.old.pages) (freed (leaving s.now ticket.page self.old.pages) pool.old) self.new pool.new) }
         ensures owners { OnOk result (owners.new ≡ parked (leaving s.now ticket.page self.old.pages) owners.old) }
         ensures missed { IfErr result (λ r. UnlessStopped r.0 ((self.new.pages ≡ staying s.now ticket.page self.old.pages) × (pool.new ≡ freed (leaving s.now ticket.page self.old.pages) pool.old) × (owners.new ≡ parked (leaving s.now ticket.page self.old.pages) owners.old))) }
@@ -252,6 +255,8 @@ impl NodeCache {
         ensures log_tie { IsTiedToLog self.new }
         ensures disk_tie { IsTrue D.told → ((D.state disk.old).block (page_place s.now ticket.page)).writer ≡ None → IsTiedToDisk s.now pool.old self.old (D.state disk.old).block
             → MatchResult result (λ _. IsTiedToDisk s.now pool.new self.new (D.state disk.new).block) (λ r. UnlessStopped r.0 (IsTiedToDisk s.now pool.new self.new (D.state disk.new).block)) }
+        ensures record_tie { IsTrue D.told → (xs : List (List ℕ)) → IsTiedToRecords s.now self.old (D.state disk.old).block xs
+            → MatchResult result (λ _. IsTiedToRecords s.now self.new (D.state disk.new).block xs) (λ r. UnlessStopped r.0 (IsTiedToRecords s.now self.new (D.state disk.new).block xs)) }
         ensures there { IsTrue D.told → (image : PageImage) → HoldsPage s.now ticket.page image ((D.state disk.old).block (page_place s.now ticket.page)).current → IfErr result (λ r. IsStopOf self.old.node.0 r.0) }
         ensures found { OnOk result (IsTrue D.told → (image : PageImage) × HoldsPage s.now ticket.page image ((D.state disk.old).block (page_place s.now ticket.page)).current) }
         ensures image { OnOk result (IsTrue D.told → (image : PageImage) → HoldsPage s.now ticket.page image ((D.state disk.old).block (page_place s.now ticket.page)).current
@@ -316,6 +321,7 @@ impl NodeCache {
         ensures node { self.new.node ≡ self.old.node }
         ensures same { SameLog self.old.log self.new.log }
         ensures tail { self.new.log.tail ≡ self.old.log.tail }
+        ensures rises { StaysLive result (self.old.log.stable ≤ self.new.log.stable) }
         ensures arrived { OnOk result (is_cached x self.old ≡ false → Arrived s.now x e (staying s.now x self.old.pages) (freed (leaving s.now x self.old.pages) pool.old) self.new pool.new) }
         ensures owners { OnOk result (is_cached x self.old ≡ false → owners.new ≡ parked (leaving s.now x self.old.pages) (slice_set owners.old x.0 (Out self.old.node))) }
         ensures missed { IfErr result (λ fault. UnlessStopped fault (Missed x (leaving s.now x self.old.pages) (staying s.now x self.old.pages) pool.old owners.old self.new pool.new owners.new)) }
@@ -328,6 +334,7 @@ impl NodeCache {
         ensures shown { AreShown s.now pool.old self.old → AreShown s.now pool.new self.new }
         ensures log_tie { IsTiedToLog self.new }
         ensures disk_tie { IsTrue D.told → ((D.state disk.old).block (page_place s.now x)).writer ≡ None → IsTiedToDisk s.now pool.old self.old (D.state disk.old).block → StaysLive result (IsTiedToDisk s.now pool.new self.new (D.state disk.new).block) }
+        ensures record_tie { IsTrue D.told → (xs : List (List ℕ)) → IsTiedToRecords s.now self.old (D.state disk.old).block xs → StaysLive result (IsTiedToRecords s.now self.new (D.state disk.new).block xs) }
         ensures there { IsTrue D.told → (image : PageImage) → HoldsPage s.now x image ((D.state disk.old).block (page_place s.now x)).current → IfErr result (IsStopOf self.old.node.0) }
         ensures found { OnOk result (IsTrue D.told → is_cached x self.old ≡ false → (image : PageImage) × HoldsPage s.now x image ((D.state disk.old).block (page_place s.now x)).current) }
         ensures image { OnOk result (IsTrue D.told → is_cached x self.old ≡ false → (image : PageImage) → HoldsPage s.now x image ((D.state disk.old).block (page_place s.now x)).current
@@ -378,6 +385,8 @@ impl NodeCache {
         ensures foreign { IsTrue D.told → KeepsForeign self.now.node.0 (D.state disk.old).block (D.state disk.new).block }
         ensures settled { IfErr result (λ fault. OnStop fault (IsTrue D.told → HasSettled self.now.node.0 (D.state disk.new).block)) }
         ensures blocks { IsTrue D.told → StaysLive result ((D.state disk.new).block ≡ (D.state disk.old).block) }
+        ensures still { IsTrue D.told → IsFreeRegion (region self.now.log) self.now.node.0 (D.state disk.old).block → IfErr result (λ fault. OnStop fault (IsStill (region self.now.log) (D.state disk.new).block)) }
+        ensures cut { IsTrue D.told → IsFreeRegion (region self.now.log) self.now.node.0 (D.state disk.old).block → (xs : List (List ℕ)) → IsLogOn self.now.log (D.state disk.old).block xs → IfErr result (λ fault. OnStop fault (IsCutLog (region self.now.log) self.now.log.start self.now.log.stable (D.state disk.new).block xs)) }
         ensures there { IsTrue D.told → (image : PageImage) → HoldsPage s.now x image ((D.state disk.old).block (page_place s.now x)).current → IfErr result (IsStopOf self.now.node.0) }
         ensures found { OnOk result (IsTrue D.told → (image : PageImage) × HoldsPage s.now x image ((D.state disk.old).block (page_place s.now x)).current) }
     {

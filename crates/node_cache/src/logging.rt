@@ -13,6 +13,7 @@ ghost use Rattle.private_log.specs.Spread.{IsFreeRegion, IsStill, IsCutLog};
 ghost use Rattle.private_log.specs.Frames.{IsInReach, NarrowsBeside, KeepsContents};
 ghost use Rattle.private_log.specs.Log.{region, tail_place, next_place, space, written, SameLog, IsLogOn};
 ghost use Rattle.node_cache.specs.Cache.{IsOfStore, IsTiedToLog, IsTiedToDisk};
+ghost use Rattle.node_cache.specs.Records.{IsTiedToRecords};
 
 use crate::cache::NodeCache;
 use log_record::{LogRecord, encode};
@@ -41,14 +42,17 @@ impl NodeCache {
         ensures memory { (self.old.log.tail + 1) % 6 ≢ 0 → disk.new ≡ disk.old }
         ensures sure { (self.old.log.tail + 1) % 6 ≢ 0 → IsOk result }
         ensures number { IfOk result (λ number. number ≡ self.old.log.tail) }
+        ensures legal { IsLegal rec.now }
         ensures node { self.new.node ≡ self.old.node }
         ensures pages { self.new.pages ≡ self.old.pages }
         ensures same { SameLog self.old.log self.new.log }
         ensures tail { OnOk result (self.new.log.tail ≡ self.old.log.tail + 1) }
         ensures stable_in_memory { OnOk result ((self.old.log.tail + 1) % 6 ≢ 0 → self.new.log.stable ≡ self.old.log.stable) }
         ensures stable_written { OnOk result ((self.old.log.tail + 1) % 6 ≡ 0 → self.new.log.stable ≡ written self.old.log) }
+        ensures rises { OnOk result (self.old.log.stable ≤ self.new.log.stable) }
         ensures log_tie { OnOk result (IsTiedToLog self.new) }
         ensures disk_tie { IsTrue D.told → (s : Shape) (pool : List (Option (List ℕ))) → IsOfStore s self.old → IsTiedToDisk s pool self.old (D.state disk.old).block → IsTiedToDisk s pool self.new (D.state disk.new).block }
+        ensures record_tie { OnOk result (IsTrue D.told → (s : Shape) (xs : List (List ℕ)) → IsOfStore s self.old → IsTiedToRecords s self.old (D.state disk.old).block xs → IsTiedToRecords s self.new (D.state disk.new).block (xs ++ record_text rec.now ∷ [])) }
         ensures free { OnOk result (IsTrue D.told → IsFreeRegion (region self.new.log) self.old.node.0 (D.state disk.new).block) }
         ensures still { OnErr result (IsTrue D.told → IsStill (region self.old.log) (D.state disk.new).block) }
         ensures log { OnOk result (IsTrue D.told → (xs : List (List ℕ)) → IsLogOn self.old.log (D.state disk.old).block xs → IsLogOn self.new.log (D.state disk.new).block (xs ++ record_text rec.now ∷ [])) }
@@ -83,8 +87,10 @@ impl NodeCache {
         ensures same { SameLog self.old.log self.new.log }
         ensures tail { self.new.log.tail ≡ self.old.log.tail }
         ensures stable { OnOk result (self.new.log.stable ≡ self.old.log.tail) }
+        ensures rises { OnOk result (self.old.log.stable ≤ self.new.log.stable) }
         ensures log_tie { IsTiedToLog self.new }
         ensures disk_tie { IsTrue D.told → (s : Shape) (pool : List (Option (List ℕ))) → IsOfStore s self.old → IsTiedToDisk s pool self.old (D.state disk.old).block → IsTiedToDisk s pool self.new (D.state disk.new).block }
+        ensures record_tie { IsTrue D.told → (s : Shape) (xs : List (List ℕ)) → IsOfStore s self.old → IsTiedToRecords s self.old (D.state disk.old).block xs → IsTiedToRecords s self.new (D.state disk.new).block xs }
         ensures free { OnOk result (IsTrue D.told → IsFreeRegion (region self.new.log) self.old.node.0 (D.state disk.new).block) }
         ensures still { OnErr result (IsTrue D.told → IsStill (region self.old.log) (D.state disk.new).block) }
         ensures log { OnOk result (IsTrue D.told → (xs : List (List ℕ)) → IsLogOn self.old.log (D.state disk.old).block xs → IsLogOn self.new.log (D.state disk.new).block xs) }
@@ -92,6 +98,7 @@ impl NodeCache {
         ensures any_outcome { IsTrue D.told → (xs : List (List ℕ)) → IsLogOn self.old.log (D.state disk.old).block xs → (image : ℕ → Option (List ℕ)) → IsOutcome (D.state disk.new).block image
             → HoldsFront (region self.old.log) self.old.log.start self.old.log.stable xs image }
     {
+        self.law_of_log();
         self.log.force(disk, self.node)
     }
 }

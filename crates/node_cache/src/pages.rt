@@ -1,24 +1,18 @@
 //! The list of the cached pages, in the order in which they came in.
 
-ghost use Rattle.std.specs.Prelude.{◌≡◌, ◌≢◌, true, false, IsTrue, IsOk, IfErr, OnOk, OnErr, ◌+◌, ◌<◌, ◌-◌, ◌≤◌, ◌++◌, ℕ, List, Some, None, replicate, slice_set, slice_index_or, IsSome, [], ◌∷◌, length};
+ghost use Rattle.std.specs.Prelude.{◌≡◌, ◌+◌, ◌<◌, ◌-◌, ◌≤◌, ◌++◌, List, Some, None, replicate, slice_set, slice_index_or, IsSome, [], ◌∷◌, length};
 ghost use Rattle.std.specs.List.{position, remove, slice_get};
-ghost use Rattle.sd_base.specs.Disk.{IsPort, IsFreeFor, Holds};
-ghost use Rattle.sd_base.specs.Calls.{Keeps, NarrowsBut, NoNewWriter, KeepsForeignBut};
-ghost use Rattle.sd_base.specs.Faults.{Caused, IsStopOf};
-ghost use Rattle.sd_base.specs.Shape.{IsShape, page_count};
-ghost use Rattle.frame_pool.specs.Frames.{IsOut, frame_at};
 ghost use Rattle.state_ids.specs.PageImage.{PageImage, page_of, ident_of, is_map, is_map_op, changed};
 ghost use Rattle.state_ids.specs.Held.{Shows, KeepsFrames};
-ghost use Rattle.state_ids.specs.Blocks.{page_place, HasSettled};
-ghost use Rattle.node_cache.specs.Cache.{CachedPage, IsStableTo, changed_by, place_of, written_back};
+ghost use Rattle.node_cache.specs.Cache.{CachedPage, changed_by, place_of, written_back};
 ghost use Rattle.node_cache.specs.Places.{shown, is_in, packed};
+ghost use Rattle.node_cache.specs.Sending.{IsSent};
 ghost use Rattle.node_cache.specs.declared.slot.Slot.{Slot};
 
 use crate::slot::Slot;
 use frame_pool::Pool;
-use private_log::Log;
-use sd_base::{DevFault, Disk, NodeId, PageNo, Shape};
-use state_ids::Logged;
+use sd_base::PageNo;
+use state_ids::{Covered, Logged};
 use std::marker::Model;
 use std::mem;
 
@@ -165,6 +159,7 @@ impl Pages {
     pub(crate) fn apply(&mut self, i: usize, pool: &mut Pool, l: Logged)
         requires place { i < length self.old }
         requires page { (p : CachedPage) → slice_get self.old i ≡ Some p → l.page ≡ p.ticket.page }
+        requires node { (p : CachedPage) → slice_get self.old i ≡ Some p → l.node ≡ p.ticket.node }
         requires image { (p : CachedPage) → slice_get self.old i ≡ Some p → (image : PageImage) × Shows pool.old p.frame image × (page_of image ≡ p.ticket.page) × (ident_of image ≡ l.ident) × (is_map image ≡ is_map_op l.op) }
         ensures pages { (p : CachedPage) → slice_get self.old i ≡ Some p → self.new ≡ slice_set self.old i (changed_by l.number p) }
         ensures frames { (p : CachedPage) → slice_get self.old i ≡ Some p → KeepsFrames p.frame pool.old pool.new }
@@ -174,45 +169,13 @@ impl Pages {
         fill(&mut self.slots, i, slot.apply(pool, l));
     }
 
-    /// Writes the page at a place to its block, if it has changes, and covers it. After an error it still
-    /// has them.
-    pub(crate) fn write<D: Disk>(
-        &mut self,
-        i: usize,
-        disk: &mut D,
-        port: NodeId,
-        s: &Shape,
-        pool: &Pool,
-        log: &Log,
-    ) -> Result<(), DevFault>
-        requires shape { IsShape s.now }
+    /// Ends the changes of the page at a place, which was written with them and covered.
+    pub(crate) fn written(&mut self, i: usize, covered: &Covered)
         requires place { i < length self.old }
-        requires page { (p : CachedPage) → slice_get self.old i ≡ Some p → p.ticket.page.0 < page_count s.now }
-        requires out { (p : CachedPage) → slice_get self.old i ≡ Some p → IsOut pool.now p.frame }
-        requires node { (p : CachedPage) → slice_get self.old i ≡ Some p → log.now.node ≡ p.ticket.node }
-        requires stable { (p : CachedPage) → slice_get self.old i ≡ Some p → IsStableTo log.now.stable p.changes }
-        requires port { IsPort port.0 }
-        requires live { (D.state disk.old).live port.0 ≡ true }
-        requires reach { (p : CachedPage) → slice_get self.old i ≡ Some p → (D.state disk.old).reach (page_place s.now p.ticket.page) ≡ true }
-        requires free { (p : CachedPage) → slice_get self.old i ≡ Some p → IsTrue D.told → IsFreeFor port.0 ((D.state disk.old).block (page_place s.now p.ticket.page)) }
-        ensures keeps { Keeps port.0 (D.state disk.old) (D.state disk.new) }
-        ensures cause { IfErr result (λ fault. Caused fault (D.state disk.old) (D.state disk.new)) }
-        ensures fault { IfErr result (IsStopOf port.0) }
-        ensures live { OnOk result ((D.state disk.new).live port.0 ≡ true) }
-        ensures stopped { OnErr result ((D.state disk.new).live port.0 ≡ false) }
-        ensures written { OnOk result ((p : CachedPage) → slice_get self.old i ≡ Some p → self.new ≡ slice_set self.old i (written_back p)) }
-        ensures kept { OnErr result (self.new ≡ self.old) }
-        ensures idle { (p : CachedPage) → slice_get self.old i ≡ Some p → p.changes ≡ None → disk.new ≡ disk.old }
-        ensures sure { (p : CachedPage) → slice_get self.old i ≡ Some p → p.changes ≡ None → IsOk result }
-        ensures outcomes { IsTrue D.told → (p : CachedPage) (b : List ℕ) → slice_get self.old i ≡ Some p → frame_at pool.now p.frame ≡ Some b → NarrowsBut (page_place s.now p.ticket.page) b (D.state disk.old).block (D.state disk.new).block }
-        ensures settled { OnErr result (IsTrue D.told → HasSettled port.0 (D.state disk.new).block) }
-        ensures writers { IsTrue D.told → NoNewWriter (D.state disk.old).block (D.state disk.new).block }
-        ensures foreign { IsTrue D.told → (p : CachedPage) → slice_get self.old i ≡ Some p → KeepsForeignBut (page_place s.now p.ticket.page) port.0 (D.state disk.old).block (D.state disk.new).block }
-        ensures others { OnOk result (IsTrue D.told → (p : CachedPage) (k : ℕ) → slice_get self.old i ≡ Some p → k ≢ page_place s.now p.ticket.page → ((D.state disk.new).block k).current ≡ ((D.state disk.old).block k).current) }
-        ensures holds { OnOk result (IsTrue D.told → (p : CachedPage) (b : List ℕ) → slice_get self.old i ≡ Some p → frame_at pool.now p.frame ≡ Some b → p.changes ≢ None → Holds (D.state disk.new).block (page_place s.now p.ticket.page) (Some b)) }
+        requires sent { (p : CachedPage) → slice_get self.old i ≡ Some p → IsSent covered.now p }
+        ensures { (p : CachedPage) → slice_get self.old i ≡ Some p → self.new ≡ slice_set self.old i (written_back p) }
     {
-        let (slot, result) = lift(&mut self.slots, i).write(disk, port, s, pool, log);
+        let slot = lift(&mut self.slots, i).written(covered);
         fill(&mut self.slots, i, slot);
-        result
     }
 }

@@ -14,76 +14,19 @@ ghost use Rattle.private_log.specs.Log.{region, tail_place, SameLog, IsLogOn};
 ghost use Rattle.state_ids.specs.Blocks.{HasSettled};
 ghost use Rattle.node_cache.specs.Cache.{AreOut, IsOfStore, IsStableTo, IsTiedToDisk, IsTiedToLog, SamePages, has_changes, is_changed, page_at, with_page, written_back};
 ghost use Rattle.node_cache.specs.Places.{IsWrittenWithin, between};
+ghost use Rattle.node_cache.specs.Records.{IsTiedToRecords};
 ghost use Rattle.node_cache.specs.Writes.{AreFree, AreInReach, HoldsPages, IsWrittenAhead, KeepsContentsButPages, KeepsContentsOfPages, KeepsForeignButPages, KeepsForeignOfPages, NarrowsButPages, NarrowsToPages};
 
 use crate::cache::NodeCache;
-use crate::pages::Pages;
 use frame_pool::Pool;
-use private_log::Log;
-use sd_base::{DevFault, Disk, NodeId, PageNo, Shape};
-
-impl Pages {
-    /// How many pages of a range have changes that their blocks haven't.
-    fn count_changed(&self, from: usize, to: usize) -> usize
-        requires { (from ≤ to) × (to ≤ length self.now) }
-        ensures { result ≡ count_by has_changes (between from to self.now) }
-    {
-        let mut count = 0;
-        for i in from..to {
-            if self.slot(i).first().is_some() {
-                count += 1;
-            }
-        }
-        count
-    }
-
-    /// Writes the pages of a range that have changes to their blocks, one after the other, and covers
-    /// each.
-    fn write_range<D: Disk>(
-        &mut self,
-        from: usize,
-        to: usize,
-        disk: &mut D,
-        port: NodeId,
-        s: &Shape,
-        pool: &Pool,
-        log: &Log,
-    ) -> Result<(), DevFault>
-        requires shape { IsShape s.now }
-        requires range { (from ≤ to) × (to ≤ length self.old) }
-        requires once { AllPairs (λ p q. p.ticket.page ≢ q.ticket.page) self.old }
-        requires pages { All (λ p. p.ticket.page.0 < page_count s.now) self.old }
-        requires out { All (λ p. IsOut pool.now p.frame) self.old }
-        requires node { All (λ p. log.now.node ≡ p.ticket.node) self.old }
-        requires stable { All (λ p. IsStableTo log.now.stable p.changes) self.old }
-        requires port { IsPort port.0 }
-        requires live { (D.state disk.old).live port.0 ≡ true }
-        requires reach { AreInReach s.now (between from to self.old) (D.state disk.old).reach }
-        requires free { IsTrue D.told → AreFree s.now (between from to self.old) port.0 (D.state disk.old).block }
-        ensures keeps { Keeps port.0 (D.state disk.old) (D.state disk.new) }
-        ensures cause { IfErr result (λ fault. Caused fault (D.state disk.old) (D.state disk.new)) }
-        ensures fault { IfErr result (IsStopOf port.0) }
-        ensures live { OnOk result ((D.state disk.new).live port.0 ≡ true) }
-        ensures stopped { OnErr result ((D.state disk.new).live port.0 ≡ false) }
-        ensures written { OnOk result (IsWrittenWithin from to self.old self.new) }
-        ensures left { OnErr result ((n : ℕ) × (from ≤ n) × (n < to) × IsWrittenWithin from n self.old self.new) }
-        ensures outcomes { IsTrue D.told → NarrowsToPages s.now pool.now (between from to self.old) (D.state disk.old).block (D.state disk.new).block }
-        ensures writers { IsTrue D.told → NoNewWriter (D.state disk.old).block (D.state disk.new).block }
-        ensures settled { OnErr result (IsTrue D.told → HasSettled port.0 (D.state disk.new).block) }
-        ensures foreign { IsTrue D.told → KeepsForeignOfPages s.now (between from to self.old) port.0 (D.state disk.old).block (D.state disk.new).block }
-        ensures contents { OnOk result (IsTrue D.told → KeepsContentsOfPages s.now (between from to self.old) (D.state disk.old).block (D.state disk.new).block) }
-        ensures holds { OnOk result (IsTrue D.told → HoldsPages s.now pool.now (between from to self.old) (D.state disk.new).block) }
-    {
-        for i in from..to {
-            self.write(i, disk, port, s, pool, log)?;
-        }
-        Ok(())
-    }
-}
+use sd_base::{DevFault, Disk, PageNo, Shape};
 
 impl NodeCache {
-    /// Makes the log stable and then writes the pages of a range that have changes, and answers their
-    /// number. Where none has, it does nothing.
+    /// Makes the log stable, then writes the pages of a range that have changes in rising order of their
+    /// numbers, and covers them by one barrier. It answers their number. Where none has changes, it does
+    /// nothing.
+    ///
+    /// After an error each of them still has its changes.
     pub(crate) fn write_back<D: Disk>(
         &mut self,
         from: usize,
@@ -112,10 +55,12 @@ impl NodeCache {
         ensures same { SameLog self.old.log self.new.log }
         ensures tail { self.new.log.tail ≡ self.old.log.tail }
         ensures stable { OnOk result (1 ≤ count_by has_changes (between from to self.old.pages) → self.new.log.stable ≡ self.old.log.tail) }
+        ensures rises { OnOk result (self.old.log.stable ≤ self.new.log.stable) }
         ensures written { OnOk result (IsWrittenWithin from to self.old.pages self.new.pages) }
-        ensures left { OnErr result ((n : ℕ) × (from ≤ n) × (n < to) × IsWrittenWithin from n self.old.pages self.new.pages) }
+        ensures kept { OnErr result (self.new.pages ≡ self.old.pages) }
         ensures log_tie { IsTiedToLog self.new }
         ensures disk_tie { OnOk result (IsTrue D.told → IsTiedToDisk s.now pool.now self.old (D.state disk.old).block → IsTiedToDisk s.now pool.now self.new (D.state disk.new).block) }
+        ensures record_tie { OnOk result (IsTrue D.told → (xs : List (List ℕ)) → IsTiedToRecords s.now self.old (D.state disk.old).block xs → IsTiedToRecords s.now self.new (D.state disk.new).block xs) }
         ensures outcomes { IsTrue D.told → NarrowsButPages s.now self.old.log pool.now (between from to self.old.pages) (D.state disk.old).block (D.state disk.new).block }
         ensures writers { IsTrue D.told → NoNewWriterBut (tail_place self.old.log) self.old.node.0 (D.state disk.old).block (D.state disk.new).block }
         ensures foreign { IsTrue D.told → KeepsForeignButPages s.now self.old.log (between from to self.old.pages) self.old.node.0 (D.state disk.old).block (D.state disk.new).block }
@@ -167,10 +112,12 @@ impl NodeCache {
         ensures same { SameLog self.old.log self.new.log }
         ensures tail { self.new.log.tail ≡ self.old.log.tail }
         ensures stable { OnOk result (IsTrue (is_changed x self.old) → self.new.log.stable ≡ self.old.log.tail) }
+        ensures rises { OnOk result (self.old.log.stable ≤ self.new.log.stable) }
         ensures pages { OnOk result (self.new.pages ≡ with_page x written_back self.old.pages) }
         ensures pages_kept { OnErr result (self.new.pages ≡ self.old.pages) }
         ensures log_tie { IsTiedToLog self.new }
         ensures disk_tie { OnOk result (IsTrue D.told → IsTiedToDisk s.now pool.now self.old (D.state disk.old).block → IsTiedToDisk s.now pool.now self.new (D.state disk.new).block) }
+        ensures record_tie { OnOk result (IsTrue D.told → (xs : List (List ℕ)) → IsTiedToRecords s.now self.old (D.state disk.old).block xs → IsTiedToRecords s.now self.new (D.state disk.new).block xs) }
         ensures outcomes { IsTrue D.told → NarrowsButPages s.now self.old.log pool.now (cons_option (page_at x self.old.pages) []) (D.state disk.old).block (D.state disk.new).block }
         ensures writers { IsTrue D.told → NoNewWriterBut (tail_place self.old.log) self.old.node.0 (D.state disk.old).block (D.state disk.new).block }
         ensures foreign { IsTrue D.told → KeepsForeignButPages s.now self.old.log (cons_option (page_at x self.old.pages) []) self.old.node.0 (D.state disk.old).block (D.state disk.new).block }
@@ -190,10 +137,12 @@ impl NodeCache {
         Ok(())
     }
 
-    /// Writes all pages that have changes to their blocks, after all log records were made stable, and
-    /// answers their number. Where none has, it does nothing.
+    /// Writes all pages that have changes to their blocks, in rising order of their numbers, after all log
+    /// records were made stable, covers them by one barrier, and answers their number. Where none has
+    /// changes, it does nothing.
     ///
-    /// After an error the cache is good for `wreck` alone.
+    /// After an error each page has the changes that it had, and the cache is good for `wreck` alone. The
+    /// block of each changed page holds what it held before or what the page's frame holds.
     pub fn flush_all<D: Disk>(
         &mut self,
         disk: &mut D,
@@ -220,9 +169,11 @@ impl NodeCache {
         ensures tail { self.new.log.tail ≡ self.old.log.tail }
         ensures stable { OnOk result (1 ≤ count_by has_changes self.old.pages → self.new.log.stable ≡ self.old.log.tail) }
         ensures pages { OnOk result (self.new.pages ≡ map written_back self.old.pages) }
+        ensures pages_kept { OnErr result (self.new.pages ≡ self.old.pages) }
         ensures same_pages { SamePages self.old.pages self.new.pages }
         ensures log_tie { IsTiedToLog self.new }
         ensures disk_tie { OnOk result (IsTrue D.told → IsTiedToDisk s.now pool.now self.old (D.state disk.old).block → IsTiedToDisk s.now pool.now self.new (D.state disk.new).block) }
+        ensures record_tie { OnOk result (IsTrue D.told → (xs : List (List ℕ)) → IsTiedToRecords s.now self.old (D.state disk.old).block xs → IsTiedToRecords s.now self.new (D.state disk.new).block xs) }
         ensures outcomes { IsTrue D.told → NarrowsButPages s.now self.old.log pool.now self.old.pages (D.state disk.old).block (D.state disk.new).block }
         ensures writers { IsTrue D.told → NoNewWriterBut (tail_place self.old.log) self.old.node.0 (D.state disk.old).block (D.state disk.new).block }
         ensures foreign { IsTrue D.told → KeepsForeignButPages s.now self.old.log self.old.pages self.old.node.0 (D.state disk.old).block (D.state disk.new).block }

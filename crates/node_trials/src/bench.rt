@@ -208,6 +208,18 @@ impl<D: Disk> Bench<D> {
         self.cache.flush_all(&mut self.disk, &SHAPE, &self.pool)
     }
 
+    /// Gives up a page that the node has.
+    pub(crate) fn surrender(&mut self, rt: &impl Abort, x: PageNo) -> Result<(), DevFault>
+        requires ready { IsReady SHAPE D.told (D.state self.old.disk) self.old.pool self.old.owners self.old.cache }
+        ensures ready { OnOk result (IsReady SHAPE D.told (D.state self.new.disk) self.new.pool self.new.owners self.new.cache) }
+        ensures broken { OnErr result (IsBroken SHAPE (D.state self.new.disk) self.new.pool self.new.owners self.new.cache) }
+    {
+        assert!(rt; x.0 < PAGES, "{x:?} is no page");
+        let owner = self.owners.state(x);
+        assert!(rt; owner == Own::Parked(NODE) || owner == Own::Out(NODE));
+        self.cache.surrender(&mut self.disk, &SHAPE, &mut self.pool, &mut self.owners, x)
+    }
+
     /// Whether the block of a page holds this on the device, read through a port that isn't the node's.
     pub(crate) fn stores(&mut self, x: PageNo, content: &Block) -> bool
         requires page { x.0 < PAGES }

@@ -53,3 +53,5 @@ mod steps;
 mod stop_tests;
 #[cfg(test)]
 mod store;
+#[cfg(test)]
+mod surrender_tests;

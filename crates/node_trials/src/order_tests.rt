@@ -1,4 +1,5 @@
-//! The log records of a page reach the device before the page does.
+//! The log records of a page reach the device before the page does, and pages that are flushed together
+//! in rising order and under one barrier.
 
 ghost use Rattle.node_trials.specs.Bench.{IsReady};
 
@@ -14,9 +15,13 @@ const FIRST: PageNo = PageNo(1);
 
 const SECOND: PageNo = PageNo(2);
 
+const THIRD: PageNo = PageNo(3);
+
 const FIRST_BLOCK: BlockNo = BlockNo(11);
 
 const SECOND_BLOCK: BlockNo = BlockNo(12);
+
+const THIRD_BLOCK: BlockNo = BlockNo(13);
 
 /// The first blocks of the ring, of six records each.
 const FIRST_LOG: BlockNo = BlockNo(2);
@@ -95,6 +100,37 @@ fn try_room<D: Disk>(rt: &impl Abort, bench: &mut Bench<WatchedDisk<D>>)
     let page = Write(FIRST_BLOCK);
     let deeds = [Barrier, Write(THIRD_LOG), Barrier, page, Barrier];
     assert_eq!(rt; bench.disk.deeds(), deeds.as_slice());
+}
+
+/// Three changed pages that came in and were changed in another order than that of their numbers.
+fn try_all<D: Disk>(rt: &impl Abort, bench: &mut Bench<WatchedDisk<D>>)
+    requires ready { IsReady SHAPE D.told (⟦<WatchedDisk<D> as Disk>⟧.state bench.old.disk) bench.old.pool bench.old.owners bench.old.cache }
+    ensures ready { IsReady SHAPE D.told (⟦<WatchedDisk<D> as Disk>⟧.state bench.new.disk) bench.new.pool bench.new.owners bench.new.cache }
+{
+    bench.fetch_all(rt, &[MAP, THIRD, FIRST, SECOND]);
+    change(rt, bench, SECOND, 1);
+    change(rt, bench, THIRD, 2);
+    change(rt, bench, FIRST, 1);
+    bench.watch(0, 0);
+    let done = bench.flush_all();
+    assert_eq!(rt; done, Ok(3));
+    let deeds = [
+        Write(FIRST_LOG),
+        Barrier,
+        Write(FIRST_BLOCK),
+        Write(SECOND_BLOCK),
+        Write(THIRD_BLOCK),
+        Barrier,
+    ];
+    assert_eq!(rt; bench.disk.deeds(), deeds.as_slice());
+}
+
+#[test]
+fn pages_are_flushed_in_rising_order_under_one_barrier(rt: HostRuntime) -> Result<(), Fail> {
+    let mut bench = new_bench(rt.alloc(), 3)?;
+    try_all(&rt, &mut bench);
+    bench.end(0);
+    Ok(())
 }
 
 #[test]

@@ -1,3 +1,4 @@
 pub mod PageImage
 pub mod Held
 pub mod Blocks
+pub mod Batch

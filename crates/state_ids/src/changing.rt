@@ -29,27 +29,33 @@ fn change_frame(pool: &mut Pool, f: &Frame, op: &PageOp)
 impl<S: Drop> Held<S> {
     fn change(self, pool: &mut Pool, l: Logged) -> Held<Dirty>
         requires page { l.page ≡ self.ticket.page }
+        requires node { l.node ≡ self.ticket.node }
         requires image { (image : PageImage) × Shows pool.old self.frame image × (page_of image ≡ self.ticket.page) × (ident_of image ≡ l.ident) × (is_map image ≡ is_map_op l.op) }
         ensures frame { result.frame ≡ self.frame }
         ensures ticket { result.ticket ≡ self.ticket }
+        ensures shape { result.shape ≡ self.shape }
         ensures last { result.last ≡ l.number }
         ensures frames { KeepsFrames self.frame pool.old pool.new }
         ensures image { (image : PageImage) → Shows pool.old self.frame image → is_map image ≡ is_map_op l.op → Shows pool.new self.frame (changed l.op image) }
     {
+        let shape = self.shape();
         let (frame, ticket) = self.parts();
         change_frame(pool, &frame, l.op());
-        Held::dirty(frame, ticket, l.spent())
+        Held::dirty(frame, ticket, shape, l.spent())
     }
 }
 
 impl Held<Clean> {
-    /// Makes the change of a log record. The record names this page and its present identifier, and its
-    /// change is one of an entry exactly where this is a map page.
+    /// Makes the change of a log record. The record stands in the log of the page's node, it names this
+    /// page and its present identifier, and its change is one of an entry exactly where this is a map
+    /// page.
     pub fn apply(self, pool: &mut Pool, l: Logged) -> Held<Dirty>
         requires page { l.page ≡ self.ticket.page }
+        requires node { l.node ≡ self.ticket.node }
         requires image { (image : PageImage) × Shows pool.old self.frame image × (page_of image ≡ self.ticket.page) × (ident_of image ≡ l.ident) × (is_map image ≡ is_map_op l.op) }
         ensures frame { result.frame ≡ self.frame }
         ensures ticket { result.ticket ≡ self.ticket }
+        ensures shape { result.shape ≡ self.shape }
         ensures last { result.last ≡ l.number }
         ensures frames { KeepsFrames self.frame pool.old pool.new }
         ensures image { (image : PageImage) → Shows pool.old self.frame image → is_map image ≡ is_map_op l.op → Shows pool.new self.frame (changed l.op image) }
@@ -62,9 +68,11 @@ impl Held<Dirty> {
     /// Makes the change of a further log record, as the change of a page that had none.
     pub fn apply(self, pool: &mut Pool, l: Logged) -> Held<Dirty>
         requires page { l.page ≡ self.ticket.page }
+        requires node { l.node ≡ self.ticket.node }
         requires image { (image : PageImage) × Shows pool.old self.frame image × (page_of image ≡ self.ticket.page) × (ident_of image ≡ l.ident) × (is_map image ≡ is_map_op l.op) }
         ensures frame { result.frame ≡ self.frame }
         ensures ticket { result.ticket ≡ self.ticket }
+        ensures shape { result.shape ≡ self.shape }
         ensures last { result.last ≡ l.number }
         ensures frames { KeepsFrames self.frame pool.old pool.new }
         ensures image { (image : PageImage) → Shows pool.old self.frame image → is_map image ≡ is_map_op l.op → Shows pool.new self.frame (changed l.op image) }

@@ -7,7 +7,7 @@ ghost use Rattle.state_ids.specs.Held.{IsFreed};
 
 use frame_pool::{Frame, Pool};
 use page_owner::Ticket;
-use sd_base::{Block, Disk, NodeId, PageNo};
+use sd_base::{Block, Disk, NodeId, PageNo, Shape};
 use std::marker::Model;
 
 /// The page in the frame is what its block stands for.
@@ -24,6 +24,8 @@ pub struct Dirty;
 pub struct Held<S> {
     frame: Frame,
     ticket: Ticket,
+    /// The shape of the store that the page was loaded from.
+    shape: Shape,
     last: u64,
     state: S,
 }
@@ -33,33 +35,56 @@ impl<S> Model for Held<S> {
 
     ghost Value = { HeldPage };
 
-    ghost view = { λ h. record { frame = h.frame; ticket = h.ticket; last = h.last } };
+    ghost view = { λ h. record { frame = h.frame; ticket = h.ticket; shape = h.shape; last = h.last } };
 }
 
-/// The token of a page that was written and covered.
+/// A page as it was written: with all its changes up to a record of the log of its node.
+#[derive(Clone, Copy, Debug)]
+pub struct WrittenPage {
+    /// The page.
+    pub page: PageNo,
+    /// The node in whose log its changes are.
+    pub node: NodeId,
+    /// The number of the last one's record.
+    pub last: u64,
+}
+
+impl Default for WrittenPage {
+    /// What stands in a place of a batch that isn't filled.
+    fn default() -> WrittenPage {
+        WrittenPage {
+            page: PageNo(0),
+            node: NodeId(0),
+            last: 0,
+        }
+    }
+}
+
+/// The token of a page that was written and covered. It is made by `Covered::written` alone.
 #[derive(Debug)]
 pub struct Written {
-    page: PageNo,
-    last: u64,
+    pub(crate) page: WrittenPage,
 }
 
 impl Model for Written {
-    ghost use Rattle.state_ids.specs.Held.{WrittenPage};
+    ghost use Rattle.state_ids.specs.declared.held.WrittenPage.{WrittenPage};
 
     ghost Value = { WrittenPage };
 
-    ghost view = { λ w. record { page = w.page; last = w.last } };
+    ghost view = { λ w. w.page };
 }
 
 impl Held<Clean> {
     /// A page that is what its block stands for.
-    pub(crate) fn clean(frame: Frame, ticket: Ticket) -> Held<Clean>
+    pub(crate) fn clean(frame: Frame, ticket: Ticket, shape: Shape) -> Held<Clean>
         ensures frame { result.frame ≡ frame }
         ensures ticket { result.ticket ≡ ticket }
+        ensures shape { result.shape ≡ shape }
     {
         Held {
             frame,
             ticket,
+            shape,
             last: 0,
             state: Clean,
         }
@@ -82,6 +107,7 @@ impl<S: Drop> Held<S> {
         let Held {
             frame,
             ticket,
+            shape: _shape,
             last: _last,
             state: _state,
         } = self;
@@ -91,26 +117,30 @@ impl<S: Drop> Held<S> {
 
 impl Held<Dirty> {
     /// A page that was changed by the log record with this number, and maybe others before.
-    pub(crate) fn dirty(frame: Frame, ticket: Ticket, last: u64) -> Held<Dirty>
+    pub(crate) fn dirty(frame: Frame, ticket: Ticket, shape: Shape, last: u64) -> Held<Dirty>
         ensures frame { result.frame ≡ frame }
         ensures ticket { result.ticket ≡ ticket }
+        ensures shape { result.shape ≡ shape }
         ensures last { result.last ≡ last }
     {
         Held {
             frame,
             ticket,
+            shape,
             last,
             state: Dirty,
         }
     }
 
-    /// The token of its write.
-    pub(crate) fn as_written(&self) -> Written
+    /// The page as it is now.
+    pub(crate) fn as_sent(&self) -> WrittenPage
         ensures page { result.page ≡ self.now.ticket.page }
+        ensures node { result.node ≡ self.now.ticket.node }
         ensures last { result.last ≡ self.now.last }
     {
-        Written {
+        WrittenPage {
             page: self.ticket.page(),
+            node: self.ticket.node(),
             last: self.last,
         }
     }
@@ -118,22 +148,23 @@ impl Held<Dirty> {
     /// Ends the changes of a page that was written as it is now.
     pub fn written(self, w: Written) -> Held<Clean>
         requires page { w.page ≡ self.ticket.page }
+        requires node { w.node ≡ self.ticket.node }
         requires last { w.last ≡ self.last }
         ensures frame { result.frame ≡ self.frame }
         ensures ticket { result.ticket ≡ self.ticket }
+        ensures shape { result.shape ≡ self.shape }
     {
-        let Written {
-            page: _page,
-            last: _last,
-        } = w;
+        let Written { page: _page } = w;
+        let shape = self.shape();
         let (frame, ticket) = self.parts();
-        Held::clean(frame, ticket)
+        Held::clean(frame, ticket, shape)
     }
 
     /// Ends the changes of a data page that its map page has as free, with the identifier behind the
-    /// page's own: what it holds is of a life that has ended.
+    /// page's own: what it holds is of a life that has ended. Both were loaded from a store of one shape.
     pub fn freed(self, pool: &Pool, map: &Held<Dirty>) -> (Frame, Ticket)
-        requires { IsFreed pool.now self.frame map.now.frame }
+        requires shape { map.now.shape ≡ self.shape }
+        requires free { IsFreed self.shape pool.now self.frame map.now.frame }
         ensures frame { result.0 ≡ self.frame }
         ensures ticket { result.1 ≡ self.ticket }
     {
@@ -146,6 +177,7 @@ impl Held<Dirty> {
     /// Ends the changes of a page of a node whose port has stopped: they are redone from its log.
     pub fn wreck<D: Disk>(self, disk: &D, n: NodeId) -> (Frame, Ticket)
         requires port { IsPort n.0 }
+        requires node { n ≡ self.ticket.node }
         requires stopped { (D.state disk.now).live n.0 ≡ false }
         ensures frame { result.0 ≡ self.frame }
         ensures ticket { result.1 ≡ self.ticket }
@@ -163,6 +195,13 @@ impl<S> Held<S> {
         ensures { result ≡ self.now.ticket.page }
     {
         self.ticket.page()
+    }
+
+    /// The shape of the store that the page was loaded from.
+    pub(crate) fn shape(&self) -> Shape
+        ensures { result ≡ self.now.shape }
+    {
+        self.shape
     }
 
     /// What the page's frame holds.

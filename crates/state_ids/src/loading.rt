@@ -184,6 +184,7 @@ pub fn load<D: Disk>(
     ensures shows { OnOk result (ShowsPage s.now t.page pool.new f) }
     ensures frame { IfOk result (λ h. h.frame ≡ f) }
     ensures ticket { IfOk result (λ h. h.ticket ≡ t) }
+    ensures shape { IfOk result (λ h. h.shape ≡ s.now) }
     ensures frame_back { IfErr result (λ r. r.1 ≡ f) }
     ensures ticket_back { IfErr result (λ r. r.2 ≡ t) }
     ensures there { IsTrue D.told → (image : PageImage) → HoldsPage s.now t.page image ((D.state disk.old).block (page_place s.now t.page)).current → IfErr result (λ r. IsStopOf port.0 r.0) }
@@ -191,7 +192,7 @@ pub fn load<D: Disk>(
     ensures image { OnOk result (IsTrue D.told → (image : PageImage) → HoldsPage s.now t.page image ((D.state disk.old).block (page_place s.now t.page)).current → Shows pool.new f (in_life e image)) }
 {
     match load_frame(disk, port, s, pool, &f, t.page(), e) {
-        Ok(()) => Ok(Held::clean(f, t)),
+        Ok(()) => Ok(Held::clean(f, t, *s)),
         Err(fault) => Err((fault, f, t)),
     }
 }

@@ -18,11 +18,12 @@ use private_log::Log;
 use sd_base::{DevFault, Disk, NodeId, PageNo, PageOp};
 use std::marker::Model;
 
-/// The token of a log record that changes a page. It is made by `log_page` alone, and spent by the
-/// change.
+/// The token of a record in the log of a node that changes a page. It is made by `log_page` alone, and
+/// spent by the change.
 #[derive(Debug)]
 pub struct Logged {
     pub(crate) page: PageNo,
+    pub(crate) node: NodeId,
     pub(crate) ident: u64,
     pub(crate) op: PageOp,
     pub(crate) number: u64,
@@ -34,7 +35,7 @@ impl Model for Logged {
 
     ghost Value = { LoggedChange };
 
-    ghost view = { λ l. record { page = l.page; ident = l.ident; op = l.op; number = l.number } };
+    ghost view = { λ l. record { page = l.page; node = l.node; ident = l.ident; op = l.op; number = l.number } };
 
     // The numbers of a legal record are in their ranges.
     ghost invariant = { λ l. IsInRange l.ident l.op };
@@ -69,6 +70,7 @@ impl Logged {
     {
         let Logged {
             page: _page,
+            node: _node,
             ident: _ident,
             op: _op,
             number,
@@ -93,6 +95,7 @@ pub fn log_page<D: Disk>(
     requires reach { IsInReach (region log.old) (D.state disk.old).reach }
     requires free { IsTrue D.told → IsFreeRegion (region log.old) port.0 (D.state disk.old).block }
     ensures token { IfOk result (λ l. page_op_of rec.now ≡ Some (l.page, l.ident, l.op)) }
+    ensures node { IfOk result (λ l. l.node ≡ log.old.node) }
     ensures number { IfOk result (λ l. l.number ≡ log.old.tail) }
     ensures keeps { Keeps port.0 (D.state disk.old) (D.state disk.new) }
     ensures cause { IfErr result (λ fault. Caused fault (D.state disk.old) (D.state disk.new)) }
@@ -116,12 +119,14 @@ pub fn log_page<D: Disk>(
     ensures any_outcome { IsTrue D.told → (xs : List (List ℕ)) → IsLogOn log.old (D.state disk.old).block xs → (image : ℕ → Option (List ℕ)) → IsOutcome (D.state disk.new).block image
         → HoldsFront (region log.old) log.old.start log.old.stable (xs ++ record_text rec.now ∷ []) image }
 {
+    let node = log.node();
     let (page, ident, op) = page_op(rec).unwrap();
     let mut text = [0; 672];
     encode(rec, &mut text);
     let number = log.append(disk, port, &text)?;
     Ok(Logged {
         page,
+        node,
         ident,
         op,
         number,

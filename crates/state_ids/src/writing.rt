@@ -8,10 +8,11 @@ ghost use Rattle.sd_base.specs.Shape.{IsShape, page_count};
 ghost use Rattle.frame_pool.specs.Frames.{IsOut, frame_at};
 ghost use Rattle.state_ids.specs.Blocks.{page_place, HasSettled};
 
+use crate::batch::Batch;
 use crate::held::{Dirty, Held, Written};
 use frame_pool::Pool;
 use private_log::Log;
-use sd_base::{DevFault, Disk, NodeId, Shape, cover, write_block};
+use sd_base::{DevFault, Disk, NodeId, Shape};
 
 /// Writes a changed page to its block, and covers it. The log of the page's node has to be stable past
 /// the record of its last change.
@@ -40,6 +41,7 @@ pub fn write_page<D: Disk>(
     ensures live { OnOk result ((D.state disk.new).live port.0 ≡ true) }
     ensures stopped { OnErr result ((D.state disk.new).live port.0 ≡ false) }
     ensures page { IfOk result (λ w. w.page ≡ h.now.ticket.page) }
+    ensures node { IfOk result (λ w. w.node ≡ h.now.ticket.node) }
     ensures last { IfOk result (λ w. w.last ≡ h.now.last) }
     ensures outcomes { IsTrue D.told → (b : List ℕ) → frame_at pool.now h.now.frame ≡ Some b → NarrowsBut (page_place s.now h.now.ticket.page) b (D.state disk.old).block (D.state disk.new).block }
     ensures writers { IsTrue D.told → NoNewWriterBut (page_place s.now h.now.ticket.page) port.0 (D.state disk.old).block (D.state disk.new).block }
@@ -49,10 +51,8 @@ pub fn write_page<D: Disk>(
     ensures others { OnOk result (IsTrue D.told → (k : ℕ) → k ≢ page_place s.now h.now.ticket.page → ((D.state disk.new).block k).current ≡ ((D.state disk.old).block k).current) }
     ensures written { OnOk result (IsTrue D.told → (b : List ℕ) → frame_at pool.now h.now.frame ≡ Some b → Holds (D.state disk.new).block (page_place s.now h.now.ticket.page) (Some b)) }
 {
-    // That the log is stable is for the caller to know.
-    let _log = log;
-    let at = s.page_block(h.page());
-    write_block(disk, port, at, h.bytes(pool))?;
-    cover(disk, port)?;
-    Ok(h.as_written())
+    let mut batch = Batch::new(port);
+    batch.send(disk, s, pool, log, h)?;
+    let covered = batch.cover(disk)?;
+    Ok(covered.written(h.page()))
 }

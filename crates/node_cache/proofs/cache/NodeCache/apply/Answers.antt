@@ -3,6 +3,7 @@ use Rattle.state_ids.specs.Held.{Shows}
 use Rattle.node_cache.specs.Cache.{IsTiedToDisk, FitsCached, changed_by, is_page, page_at, with_page, written_back}
 use Rattle.state_ids.specs.Blocks.{ShowsPage}
 use Rattle.node_cache.proofs.ChangeLaws.{still_shown, still_tied}
+use Rattle.node_cache.proofs.Finding.{all_at}
 use Rattle.sd_base.proofs.Positions.{not_placed}
 use Rattle.node_cache.proofs.OnePage.{found, is_page-same, place_holds, set_at_place}
 use Rattle.node_cache.proofs.SamePages.{cache_same, with_same}
@@ -20,6 +21,9 @@ apply-requires-clause-page c = λ p is.
     let at = place_holds _ _ _ _ _ c.page.ensures (sym c.find.ensures ∙ c.in-Some.is) (ap (λ s. page_at c.args.l.page s.pages) c.self.view_is ∙ fits.there) in
     let same : fits.page ≡ p = cc in
     sym (is_page-same c.args.l.page fits.page (found (is_page c.args.l.page) c.args.self.now.pages fits.page fits.there)) ∙ ap (λ q. q.ticket.page) same
+
+pub apply-requires-clause-node : goal.apply-requires-clause-node
+apply-requires-clause-node c = λ p is. c.requires.node ∙ sym (ap (λ v. v.node) c.self.view_is) ∙ sym (all_at (λ q. q.ticket.node ≡ c.self.inside.node) _ _ _ c.self.invariant.own is)
 
 pub apply-requires-clause-image : goal.apply-requires-clause-image
 apply-requires-clause-image c = λ p is.

@@ -1,8 +1,14 @@
-use Rattle.std.proofs.Common.{ap, subst, sym, ◌∙◌}
+use Rattle.std.specs.Prelude.{◌≡◌, ◌≢◌, ◌+◌, ◌/◌, ◌++◌, [], ◌∷◌, AllPairs, slice_index_or}
+use Rattle.std.proofs.Common.{ap, arith, subst, subst₂, sym, ◌∙◌}
+use Rattle.std.proofs.lemmas.List.{length-append}
+use Rattle.log_record.specs.Text.{record_text}
+use Rattle.private_log.specs.Frames.{NarrowsBeside}
 use Rattle.sd_base.proofs.Results.{on_err}
 use Rattle.node_cache.specs.Cache.{IsTiedToLog, IsTiedToDisk, IsOfStore, with_page, changed_by}
-use Rattle.node_cache.proofs.Ties.{tied_changed, state_of}
+use Rattle.private_log.specs.Log.{LogState, next_place}
+use Rattle.node_cache.proofs.Ties.{rises_logged, tied_changed, state_of}
 use Rattle.node_cache.proofs.DiskTie.{tied_beside}
+use Rattle.node_cache.proofs.RecordTie.{AreBefore, before_changed, before_narrowed, pages_beside_log}
 use Rattle.node_cache.proofs.cache.NodeCache.change.Goals as goal
 
 pub returns-in_err-logged-clause-shown : goal.returns-in_err-logged-clause-shown
@@ -33,3 +39,31 @@ returns-clause-log g c = rw (← c.self.view_is, c.apply.ensures.log) c.in_ok-lo
 
 pub returns-clause-any_outcome : goal.returns-clause-any_outcome
 returns-clause-any_outcome g c = rw (← c.self.view_is) c.log_page.ensures.any_outcome
+
+pub returns-clause-rises : goal.returns-clause-rises
+returns-clause-rises g c =
+    let rises = rises_logged c.self.inside.log c.log_page.new.log c.in_ok-logged.ensures.stable_in_memory c.in_ok-logged.ensures.stable_written in
+    let log = ap (λ (l : LogState). l.stable) c.apply.ensures.log in
+    let old = ap (λ v. v.log.stable) c.self.view_is in
+    omega (arith, rises, log, old)
+
+pub returns-clause-record_tie : goal.returns-clause-record_tie
+returns-clause-record_tie g c = λ told s xs store tie records.
+    let l = c.in_ok-logged.logged in
+    let token = c.in_ok-logged.ensures.token in
+    let pages = ap (λ v. v.pages) c.self.view_is in
+    let log = ap (λ v. v.log) c.self.view_is in
+    let old = (g.D.Disk.state c.args.disk.now).block in
+    let new = (g.D.Disk.state c.log_page.new.disk).block in
+    let beside = pages_beside_log s c.args.self.now (c.args.self.now.log.tail / 6) old new store c.requires.log_tie (subst (λ m. NarrowsBeside (next_place m) old new) log (c.log_page.ensures.outcomes told)) in
+    let same = c.log_page.ensures.same in
+    let start : c.apply.new.self.log.start ≡ c.args.self.now.log.start = ap (λ (m : LogState). m.start) c.apply.ensures.log ∙ same.start ∙ ap (λ (m : LogState). m.start) log in
+    let number : l.number ≡ c.args.self.now.log.tail = c.in_ok-logged.ensures.number ∙ ap (λ (m : LogState). m.tail) log in
+    let tail : c.apply.new.self.log.tail ≡ c.args.self.now.log.tail + 1 = ap (λ (m : LogState). m.tail) c.apply.ensures.log ∙ c.in_ok-logged.ensures.tail ∙ ap (λ (m : LogState). m.tail + 1) log in
+    let made = before_changed s c.args.pool.now c.args.self.now.pages l.page l.ident l.number l.op (subst (AllPairs (λ p q. p.ticket.page ≢ q.ticket.page)) pages c.self.invariant.once) (subst (AllPairs (λ p q. p.frame ≢ q.frame)) pages c.self.invariant.apart)
+    (c.requires.fits l.page l.ident l.op token) c.args.self.now.log.start xs c.args.rec.now c.requires.legal token (number ∙ records.count) new (λ i d below none o may. tie.clean i d below none o (beside _ o may))
+    (λ i d below n first. before_narrowed s c.args.self.now.log.start xs old new (slice_index_or c.args.self.now.pages i d) n (beside _) (records.before i d below n first)) in
+    record {
+      count = let count = records.count in omega (arith, tail, start, count, length-append xs (record_text c.args.rec.now ∷ []));
+      before = subst₂ (λ st ps. AreBefore s st (xs ++ record_text c.args.rec.now ∷ []) new ps) (sym start) (sym (c.apply.ensures.pages ∙ ap (with_page l.page (changed_by l.number)) pages)) made;
+    }

@@ -170,3 +170,6 @@ returns-in-Err-clause-owned g c =
           let are = subst (λ n. ArePages (parked (leaving c.args.s.now c.args.x c.args.self.now.pages) c.args.owners.now) n (staying c.args.s.now c.args.x c.args.self.now.pages)) (sym c.fetch_new.ensures.node) (pages_stay c.args.s.now c.args.x c.args.owners.now c.args.self.now.node c.args.self.now.pages once owned c.requires.owned) in
           owned_missed c.args.x (leaving c.args.s.now c.args.x c.args.self.now.pages) (staying c.args.s.now c.args.x c.args.self.now.pages) c.args.pool.now c.fetch_new.new.pool c.args.owners.now c.park.new.self c.fetch_new.new.self left within others_left others_stay are
     ]
+
+pub returns-in-Err-clause-record_tie : goal.returns-in-Err-clause-record_tie
+returns-in-Err-clause-record_tie g c = λ told xs tie. stays_then (Unit {0}) c.in-Err.fault (c.in-Err.ensures.record_tie told xs tie) (λ now. now)

@@ -17,6 +17,7 @@ use Rattle.node_cache.proofs.ArrivedTie.{shown_then, tied_then}
 use Rattle.node_cache.proofs.Leaving.{all_left, all_stay}
 use Rattle.node_cache.proofs.RoomLaws.{narrows_then, foreign_then, ahead_then, settled_still, same_content, same_writer, cut_then, outcome_then, still_before}
 use Rattle.node_cache.proofs.Stopping.{stop_then, live_then}
+use Rattle.node_cache.proofs.RecordTie.{records_then}
 use Rattle.node_cache.proofs.cache.NodeCache.fetch_new.Goals as goal
 
 -- the page's block holds between the two calls what it held before
@@ -107,13 +108,18 @@ returns-in-Ok-clause-log g c = λ told xs on. live_then c.bring.result (c.bring.
 
 pub returns-in-Ok-clause-cut : goal.returns-in-Ok-clause-cut
 returns-in-Ok-clause-cut g c = λ told xs on. stop_then c.bring.result c.bring.ensures.settled (λ settled.
-    cut_then c.args.self.now.log c.make_room.new.self.log c.make_room.new.self.node.0 (g.D.Disk.state c.args.disk.now).block (g.D.Disk.state c.make_room.new.disk).block (g.D.Disk.state c.bring.new.disk).block xs
-    (λ k. g.met.D.Disk.lawful c.bring.new.disk k told) c.make_room.ensures.same c.in-Ok.ensures.stable on (c.in-Ok.ensures.log told xs on)
+    cut_then c.args.self.now.log c.make_room.new.self.log c.make_room.new.self.node.0 (g.D.Disk.state c.make_room.new.disk).block (g.D.Disk.state c.bring.new.disk).block xs
+    (λ k. g.met.D.Disk.lawful c.bring.new.disk k told) c.make_room.ensures.same c.in-Ok.ensures.rises (c.in-Ok.ensures.log told xs on)
     (subst (λ n. IsFreeRegion (region c.make_room.new.self.log) n.0 (g.D.Disk.state c.make_room.new.disk).block) (sym c.make_room.ensures.node) (c.in-Ok.ensures.free told)) (c.bring.ensures.outcomes told) (c.bring.ensures.writers told) (settled told))
 
 pub returns-in-Ok-clause-any_outcome : goal.returns-in-Ok-clause-any_outcome
 returns-in-Ok-clause-any_outcome g c = λ told xs on image out.
-    outcome_then c.args.self.now.log c.make_room.new.self.log (g.D.Disk.state c.args.disk.now).block (g.D.Disk.state c.make_room.new.disk).block (g.D.Disk.state c.bring.new.disk).block xs image c.make_room.ensures.same c.in-Ok.ensures.stable on (c.in-Ok.ensures.log told xs on) (c.bring.ensures.outcomes told) out
+    outcome_then c.args.self.now.log c.make_room.new.self.log (g.D.Disk.state c.make_room.new.disk).block (g.D.Disk.state c.bring.new.disk).block xs image c.make_room.ensures.same c.in-Ok.ensures.rises (c.in-Ok.ensures.log told xs on) (c.bring.ensures.outcomes told) out
 
 pub returns-in-Err-clause-any_outcome : goal.returns-in-Err-clause-any_outcome
 returns-in-Err-clause-any_outcome g c = λ told xs on image. cut_outcome _ _ _ _ xs image (c.in-Err.ensures.cut told xs on)
+
+pub returns-in-Ok-clause-record_tie : goal.returns-in-Ok-clause-record_tie
+returns-in-Ok-clause-record_tie g c = λ told xs tie.
+    records_then c.args.s.now c.args.ticket.page c.args.e c.make_room.new.self c.bring.new.self c.make_room.new.pool c.bring.new.pool (g.D.Disk.state c.make_room.new.disk).block (g.D.Disk.state c.bring.new.disk).block xs c.bring.result c.bring.ensures.log
+    c.bring.ensures.arrived c.bring.ensures.pages_kept (c.bring.ensures.blocks told) (c.in-Ok.ensures.record_tie told xs tie)

@@ -1,4 +1,5 @@
-use Rattle.std.proofs.Common.{length, ap, subst, ◌∙◌}
+use Rattle.std.proofs.Common.{length, map, ap, subst, ◌∙◌}
+use Rattle.node_cache.specs.Cache.{written_back}
 use Rattle.node_cache.specs.Places.{IsWrittenWithin}
 use Rattle.node_cache.specs.Writes.{KeepsForeignButPages, NarrowsButPages}
 use Rattle.node_cache.proofs.FlushLaws.{all_range}
@@ -6,7 +7,7 @@ use Rattle.node_cache.proofs.Ranges.{all_within, same_within}
 use Rattle.node_cache.proofs.cache.NodeCache.flush_all.Goals as goal
 
 pub returns-in_err-count-clause-same_pages : goal.returns-in_err-count-clause-same_pages
-returns-in_err-count-clause-same_pages g c = same_within _ _ _ _ c.in_err-count.ensures.left.3
+returns-in_err-count-clause-same_pages g c = ap (map written_back) c.in_err-count.ensures.kept
 
 pub returns-clause-pages : goal.returns-clause-pages
 returns-clause-pages g c = all_within _ _ (subst (λ n. IsWrittenWithin 0 n c.args.self.now.pages c.write_back.new.self.pages) (c.len-len.ensures ∙ ap (λ v. length v.pages) c.self.view_is) c.in_ok-count.ensures.written)

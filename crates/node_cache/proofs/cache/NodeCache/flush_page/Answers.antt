@@ -1,13 +1,11 @@
-use Rattle.std.proofs.Common.{◌≡◌, ◌≢◌, [], AllPairs, is_some, option_and_then, refl, ap, arith, subst, sym, ◌∙◌}
+use Rattle.std.proofs.Common.{◌≢◌, [], AllPairs, is_some, option_and_then, refl, ap, arith, subst, sym, ◌∙◌}
 use Rattle.std.specs.List.{cons_option, count_by}
 use Rattle.std.specs.Result.{IsOk}
-use Rattle.sd_base.proofs.Results.{on_err}
 use Rattle.private_log.proofs.Outcomes.{on_outcome}
 use Rattle.node_cache.specs.Cache.{first_change, has_changes, is_page, page_at, place_of}
-use Rattle.node_cache.specs.Places.{IsWrittenWithin}
 use Rattle.node_cache.specs.Writes.{AreFree, AreInReach, HoldsPages, KeepsContentsButPages, KeepsForeignButPages, NarrowsButPages}
 use Rattle.sd_base.proofs.Positions.{not_placed}
-use Rattle.node_cache.proofs.FlushLaws.{page_range, unchanged_page, changed_page, empty_within, page_written, page_missing}
+use Rattle.node_cache.proofs.FlushLaws.{page_range, unchanged_page, changed_page, page_written, page_missing}
 use Rattle.node_cache.proofs.cache.NodeCache.flush_page.Goals as goal
 
 pub write_back-requires-clause-page_reach : goal.write_back-requires-clause-page_reach
@@ -21,12 +19,6 @@ returns-in_err-write_back-clause-idle g c = λ none.
     let quiet = c.write_back.ensures.idle (ap (count_by has_changes) (page_range c.args.x c.args.self.now.pages c.in-Some.i (ap (λ v. place_of c.args.x v.pages) (sym c.self.view_is) ∙ sym c.find.ensures ∙ c.in-Some.is)) ∙ unchanged_page (page_at c.args.x c.args.self.now.pages) none) in
     let never = subst (λ r. IsOk r) c.in_err-write_back.was quiet.0 in
     absurd cc
-
-pub returns-in_err-write_back-clause-pages_kept : goal.returns-in_err-write_back-clause-pages_kept
-returns-in_err-write_back-clause-pages_kept g c = on_err c.from_residual.result (
-    let left = c.in_err-write_back.ensures.left in
-    let here : left.0 ≡ c.in-Some.i = omega (arith, left.1, left.2) in
-    empty_within c.in-Some.i _ _ (subst (λ n. IsWrittenWithin c.in-Some.i n c.args.self.now.pages c.write_back.new.self.pages) here left.3))
 
 pub returns-in_err-write_back-clause-outcomes : goal.returns-in_err-write_back-clause-outcomes
 returns-in_err-write_back-clause-outcomes g c = λ told. subst (λ ws. NarrowsButPages c.args.s.now c.args.self.now.log c.args.pool.now ws (g.D.Disk.state c.args.disk.now).block (g.D.Disk.state c.write_back.new.disk).block) (page_range c.args.x c.args.self.now.pages c.in-Some.i (ap (λ v. place_of c.args.x v.pages) (sym c.self.view_is) ∙ sym c.find.ensures ∙ c.in-Some.is)) (c.write_back.ensures.outcomes told)

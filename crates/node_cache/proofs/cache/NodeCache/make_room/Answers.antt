@@ -12,10 +12,11 @@ use Rattle.node_cache.specs.Cache.{CachedPage, IsCache, IsTiedToDisk, written_ba
 use Rattle.node_cache.specs.Room.{freed, may_go, parked}
 use Rattle.node_cache.specs.Writes.{AreFree, AreInReach, HoldsPages, KeepsContentsButPages, KeepsForeignButPages, NarrowsButPages}
 use Rattle.node_cache.proofs.Finding.{all_at, got}
-use Rattle.node_cache.proofs.Leaving.{Leaves, none_written, one_leaves, range_leaves, written_at, written_gone}
+use Rattle.node_cache.proofs.Leaving.{Leaves, one_leaves, range_leaves, written_at, written_gone}
 use Rattle.node_cache.proofs.Ranges.{same_within}
 use Rattle.node_cache.proofs.SamePages.{cache_same}
 use Rattle.node_cache.proofs.Without.{left_out, left_shown, left_tied, log_without}
+use Rattle.node_cache.proofs.RecordTie.{records_without}
 use Rattle.node_cache.proofs.cache.NodeCache.make_room.Goals as goal
 
 -- the page that leaves a full cache
@@ -33,11 +34,11 @@ write_back-requires-clause-page_free g c = λ told.
     subst (λ ps. AreFree c.args.s.now ps c.args.self.now.node.0 (g.D.Disk.state c.args.disk.now).block) (sym (range_leaves _ _ _ _ l)) (c.requires.page_free told)
 
 pub returns-in_err-write_back-clause-pages_kept : goal.returns-in_err-write_back-clause-pages_kept
-returns-in_err-write_back-clause-pages_kept g c = on_err c.from_residual.result (none_written _ _ _ c.in_err-write_back.ensures.left)
+returns-in_err-write_back-clause-pages_kept g c = on_err c.from_residual.result c.in_err-write_back.ensures.kept
 
 pub returns-in_err-write_back-clause-shown : goal.returns-in_err-write_back-clause-shown
 returns-in_err-write_back-clause-shown g c = λ shown.
-    subst (All (λ q. ShowsPage c.args.s.now q.ticket.page c.args.pool.now q.frame)) (sym (none_written _ _ _ c.in_err-write_back.ensures.left)) shown
+    subst (All (λ q. ShowsPage c.args.s.now q.ticket.page c.args.pool.now q.frame)) (sym c.in_err-write_back.ensures.kept) shown
 
 pub returns-in_err-write_back-clause-outcomes : goal.returns-in_err-write_back-clause-outcomes
 returns-in_err-write_back-clause-outcomes g c = λ told.
@@ -131,3 +132,9 @@ returns-clause-holds g c = λ told.
 
 pub returns-clause-log : goal.returns-clause-log
 returns-clause-log g c = λ told xs on. subst (λ m. IsLogOn m (g.D.Disk.state c.write_back.new.disk).block xs) (sym c.let_go.ensures.log) (c.in_ok-write_back.ensures.log told xs on)
+
+pub returns-clause-record_tie : goal.returns-clause-record_tie
+returns-clause-record_tie g c = λ told xs tie.
+    let l = leaves c.args.s.now c.args.x _ _ _ _ (ap (λ s. s.pages) c.self.view_is) c.len.ensures c.if-len-lt-MAX_PAGES.false c.leaving_place-i.ensures in
+    records_without c.args.s.now c.write_back.new.self c.let_go.new.self (g.D.Disk.state c.write_back.new.disk).block xs c.leaving_place-i.result (got _ _ _ (written_at _ _ _ _ _ l c.in_ok-write_back.ensures.written)).0 c.let_go.ensures.log c.let_go.ensures.pages
+    (c.in_ok-write_back.ensures.record_tie told xs tie)

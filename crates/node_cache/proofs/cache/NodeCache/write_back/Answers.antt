@@ -1,21 +1,15 @@
-use Rattle.std.proofs.Common.{◌≡◌, ◌≤◌, ◌<◌, length, ap, arith, inr, subst, sym, ◌∙◌}
+use Rattle.std.proofs.Common.{◌≡◌, ap, arith, inr, subst, sym, ◌∙◌}
 use Rattle.std.specs.List.{count_by}
 use Rattle.sd_base.proofs.Results.{on_err}
 use Rattle.private_log.specs.Log.{IsLogOn}
 use Rattle.private_log.proofs.Outcomes.{less_front, on_outcome}
 use Rattle.node_cache.specs.Cache.{IsTiedToDisk, has_changes}
-use Rattle.node_cache.specs.Places.{between, IsWrittenWithin}
-use Rattle.node_cache.proofs.Ranges.{none_within, none_changed_within, same_within, some_between}
+use Rattle.node_cache.specs.Places.{between}
+use Rattle.node_cache.specs.Records.{IsTiedToRecords}
+use Rattle.node_cache.proofs.Ranges.{none_changed_within, same_within}
 use Rattle.node_cache.proofs.SamePages.{cache_same}
-use Rattle.node_cache.proofs.WriteAhead.{stable_below, log_stays, all_there, log_cut, tied_written}
+use Rattle.node_cache.proofs.WriteAhead.{stable_below, log_stays, all_there, before_written, log_cut, tied_written}
 use Rattle.node_cache.proofs.cache.NodeCache.write_back.Goals as goal
-
-pub returns-in_err-force-clause-left : goal.returns-in_err-force-clause-left
-returns-in_err-force-clause-left g c =
-    let pages = ap (λ v. v.pages) c.self.view_is in
-    let within : c.args.to ≤ length c.self.inside.pages = rw pages c.requires.range.1 in
-    let some : 0 < count_by has_changes (between c.args.from c.args.to c.self.inside.pages) = omega (arith, c.if-count-gt0.true, c.count_changed-count.ensures) in
-    on_err c.from_residual.result (c.args.from, omega arith, some_between _ _ _ within some, subst (IsWrittenWithin c.args.from c.args.from c.args.self.now.pages) (sym c.force.ensures.pages) (none_within _ _))
 
 pub invariant_of-self : goal.invariant_of-self
 invariant_of-self g c = cache_same _ _ _ (same_within _ _ _ _ c.in_ok-write_range.ensures.written) c.self-then-count-gt0.invariant
@@ -52,3 +46,12 @@ returns-else-count-gt0-clause-written g c =
 
 pub returns-else-count-gt0-clause-any_outcome : goal.returns-else-count-gt0-clause-any_outcome
 returns-else-count-gt0-clause-any_outcome g c = λ told xs on image is. on_outcome c.args.self.now.log (g.D.Disk.state c.args.disk.now).block xs image on is
+
+pub returns-in_ok-write_range-clause-record_tie : goal.returns-in_ok-write_range-clause-record_tie
+returns-in_ok-write_range-clause-record_tie g c = λ told xs tie.
+    let was = subst (λ v. IsTiedToRecords c.args.s.now v (g.D.Disk.state c.force.new.disk).block xs) (sym c.self-then-count-gt0.view_is) (c.force.ensures.record_tie told c.args.s.now xs c.requires.store tie) in
+    record {
+      count = was.count;
+      before = before_written c.args.s.now c.args.pool.now c.args.from c.args.to c.self-then-count-gt0.inside.pages c.write_range.new.self (g.D.Disk.state c.force.new.disk).block (g.D.Disk.state c.write_range.new.disk).block c.self-then-count-gt0.invariant.once
+          (rw (ap (λ v. v.pages) c.self-then-count-gt0.view_is, c.force.ensures.pages) c.requires.range.1) (c.write_range.ensures.outcomes told) (c.in_ok-write_range.ensures.holds told) c.in_ok-write_range.ensures.written c.self-then-count-gt0.inside.log.start xs was.before;
+    }

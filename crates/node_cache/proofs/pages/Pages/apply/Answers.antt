@@ -13,6 +13,9 @@ lift-slot-requires-clause-filled c = filled_at _ _ _ c.self.invariant (omega (ar
 pub apply-requires-clause-page : goal.apply-requires-clause-page
 apply-requires-clause-page c = c.requires.page _ (lifted _ _ _ _ c.self.view_is c.requires.place c.lift-slot.ensures.slot)
 
+pub apply-requires-clause-node : goal.apply-requires-clause-node
+apply-requires-clause-node c = c.requires.node _ (lifted _ _ _ _ c.self.view_is c.requires.place c.lift-slot.ensures.slot)
+
 pub apply-requires-clause-image : goal.apply-requires-clause-image
 apply-requires-clause-image c = c.requires.image _ (lifted _ _ _ _ c.self.view_is c.requires.place c.lift-slot.ensures.slot)
 

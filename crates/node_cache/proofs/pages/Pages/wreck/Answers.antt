@@ -1,4 +1,4 @@
-use Rattle.std.proofs.Common.{◌≡◌, ◌∷◌, slice_set, length, None, ap, sym, subst, subst₂, arith, ◌∙◌}
+use Rattle.std.proofs.Common.{◌≡◌, ◌∷◌, suc, All, slice_set, length, None, ap, sym, subst, subst₂, arith, ◌∙◌}
 use Rattle.page_owner.specs.declared.owners.Own.TheVariants.{Nobody, Parked, Out}
 use Rattle.page_owner.specs.Owners.{owner_of}
 use Rattle.node_cache.specs.Places.{shown}
@@ -6,6 +6,9 @@ use Rattle.node_cache.specs.Room.{freed, parked}
 use Rattle.node_cache.proofs.Finding.{all_at}
 use Rattle.node_cache.proofs.Parking.{AreHeld, first_is, is_within, others_held}
 use Rattle.node_cache.proofs.pages.Pages.wreck.Goals as goal
+
+pub wreck-frame-requires-clause-node : goal.wreck-frame-requires-clause-node
+wreck-frame-requires-clause-node g c = sym (all_at (λ p. p.ticket.node ≡ c.args.n) c.loop-n.self 0 _ c.loop-n.invariant.own c.remove.ensures.slot)
 
 pub park-requires-clause-page : goal.park-requires-clause-page
 park-requires-clause-page g c =
@@ -19,6 +22,7 @@ loop-n-preserved g c =
     let pool = c.give.ensures.free ∙ ap (λ f. slice_set c.loop-n.pool f None) c.wreck-frame.ensures.frame in
     let owners = c.park.ensures ∙ ap (λ t. slice_set c.loop-n.owners t.page.0 (Parked t.node)) c.wreck-frame.ensures.ticket in
     record {
+      own = λ k d below. subst (All (λ q. q.ticket.node ≡ c.args.n)) whole c.loop-n.invariant.own (suc k) d (omega (arith, below));
       held = subst₂ (AreHeld c.remove.new.self) (sym pool) (sym owners) (others_held p c.remove.new.self c.loop-n.pool c.loop-n.owners (subst (λ ps. AreHeld ps c.loop-n.pool c.loop-n.owners) whole c.loop-n.invariant.held));
       pool = ap (freed c.remove.new.self) pool ∙ ap (λ ps. freed ps c.loop-n.pool) (sym whole) ∙ c.loop-n.invariant.pool;
       counted = omega (arith, c.loop-n.invariant.counted, c.give.ensures.counted, ap length whole);
