@@ -225,13 +225,17 @@ busy_below s seat t is = below s.seats seat is
     below (o ∷ os) zero e = omega arith
     below (o ∷ os) (suc i) e = omega (arith, below os i e)
 
--- the record by which the transaction in a seat ends is legal
-pub legal_end : (s : SeatsState) (c : CacheState) (seat : ℕ) (ending : Ending) (t : OpenTxn) → AreTied s c → txn_in s seat ≡ Some t → IsLegal (end_record ending t)
-legal_end s c seat ending t tie is =
+-- the numbers of the transaction in a seat are those of records
+pub seat_numbers : (s : SeatsState) (c : CacheState) (seat : ℕ) (t : OpenTxn) → AreTied s c → txn_in s seat ≡ Some t → IsRecordNo t.begin × IsRecordNo t.last
+seat_numbers s c seat t tie is =
     let below = busy_below s seat t is in
     let lies = seat_lies s c seat t tie below is in
     let room = room_for_end s c seat tie below (ap is_some is) in
-    ends_legal ending t (omega (arith, lies.1, lies.2, room)) (omega (arith, lies.2, room))
+    (omega (arith, lies.1, lies.2, room), omega (arith, lies.2, room))
+
+-- the record by which the transaction in a seat ends is legal
+pub legal_end : (s : SeatsState) (c : CacheState) (seat : ℕ) (ending : Ending) (t : OpenTxn) → AreTied s c → txn_in s seat ≡ Some t → IsLegal (end_record ending t)
+legal_end s c seat ending t tie is = let numbers = seat_numbers s c seat t tie is in ends_legal ending t numbers.0 numbers.1
 
 -- the transaction in a busy seat
 pub txn_of : (seats : SeatsState) (seat : ℕ) → IsTrue (is_busy seats seat) → (txn : OpenTxn) × (txn_in seats seat ≡ Some txn)

@@ -1,8 +1,9 @@
 -- The record that takes an update back, and the seats after it.
-use Rattle.std.specs.Prelude.{◌≡◌, ◌≢◌, ◌==◌, ◌+◌, ◌-◌, ◌*◌, ◌^◌, ◌≤◌, ◌<◌, ◌++◌, ◌∷◌, [], ℕ, Bool, true, false, List, Option, Some, None, IfSome, length, slice_index_or, slice_set, refl}
+use Rattle.std.specs.Prelude.{◌≡◌, ◌≢◌, ◌==◌, ◌+◌, ◌-◌, ◌*◌, ◌^◌, ◌≤◌, ◌<◌, ◌++◌, ◌∷◌, [], ℕ, Bool, true, false, List, Option, Some, None, All, IfSome, length, option_and_then, slice_index_or, slice_set, unwrap_or, refl}
 use Rattle.std.proofs.Common.{arith, inl, inr, ap, subst, sym, ◌∙◌}
 use Rattle.std.proofs.lemmas.Bool.{eq-eqb}
 use Rattle.std.proofs.lemmas.Bool.Decides.{nat_tests}
+use Rattle.std.proofs.lemmas.Option.{cond_some}
 use Rattle.sd_base.specs.declared.names.PageNo.{PageNo}
 use Rattle.sd_base.specs.declared.page_op.PageOp.{PageOp}
 use Rattle.sd_base.specs.declared.page_op.PageOp.TheVariants as ops
@@ -20,13 +21,14 @@ use Rattle.compensation.specs.Left.{is_update_of, next_after, uncompensated}
 use Rattle.compensation.specs.Finding.{newest, next_behind, record_at, record_before}
 use Rattle.private_log.specs.Log.{SameLog}
 use Rattle.node_cache.specs.Cache.{CachedPage, CacheState, page_at}
+use Rattle.node_cache.proofs.Finding.{all_at}
 use Rattle.txn_core.specs.Seats.{AreTied, OpenTxn, SeatsState, txn_in}
 use Rattle.txn_core.specs.Told.{AreTold, IsOpenIn}
 use Rattle.txn_core.specs.Undo.{IsPageOf, IsToUndo, TakesBack, compensation_of}
 use Rattle.txn_core.specs.Updates.{HasPage}
 use Rattle.txn_core.proofs.CompensationLaws.{own_page}
 use Rattle.compensation.proofs.LogRecords.{at_place}
-use Rattle.txn_core.proofs.SeatLaws.{LiesIn, all_longer, apart_set, owed_set, space_less}
+use Rattle.txn_core.proofs.SeatLaws.{LiesIn, all_longer, apart_set, owed_set, seat_numbers, space_less}
 use Rattle.txn_core.proofs.ToldLaws.{names-push, open-other, open-taken_back}
 use Rattle.txn_core.proofs.UpdateLaws.{all_seats, apart_at}
 use Rattle.txn_core.proofs.UndoLaws.{newest_update}
@@ -90,6 +92,41 @@ legal_back t next ident update rec is legal number room begin last =
     (λ txn prev page bsi slot before after was. record { page = was.page; bsi = room; txn = begin; prev = last; group = omega arith; place = was.place; extra = number; contents = was.contents.0 })
     (λ txn prev page bsi slot present len bytes was. record { page = was.page; bsi = room; txn = begin; prev = last; group = omega arith; place = was.place; extra = number; contents = was.contents.0 })
     legal
+
+-- what a compensation says is next is the number of a record
+number_after : (t n : ℕ) (rec : LogRecord) → IsLegal rec → next_after t rec ≡ Some n → IsRecordNo n
+number_after t n Begin legal is = cc
+number_after t n (Set txn prev page bsi slot before after) legal is = cc
+number_after t n (Append txn prev page bsi slot present len bytes) legal is = cc
+number_after t n (Commit txn prev) legal is = cc
+number_after t n (Abort txn prev) legal is = cc
+number_after t n (Restore txn prev next page bsi slot after) legal is = subst IsRecordNo (cond_some (txn == t) next n is).1 legal.extra
+number_after t n (Cut txn prev next page bsi slot present len) legal is = subst IsRecordNo (cond_some (txn == t) next n is).1 legal.extra
+number_after t n (MapUse page bsi place group) legal is = cc
+number_after t n (MapFree page bsi place group ident) legal is = cc
+
+-- and so is what is next behind an update
+number_behind : (t first : ℕ) (recs : List LogRecord) (update : LogRecord) → All IsLegal recs → IsLegal update → IsRecordNo (next_behind t first recs update)
+number_behind t first recs update all legal =
+    by (record_at first recs (record_before update)) (λ rec at. all_at IsLegal recs (record_before update - first) rec all (at_place first recs (record_before update) rec at).1)
+  where
+    or_before : (o : Option ℕ) → ((n : ℕ) → o ≡ Some n → IsRecordNo n) → IsRecordNo (unwrap_or o (record_before update))
+    or_before None each = legal.prev
+    or_before (Some n) each = each n refl
+
+    by : (o : Option LogRecord) → ((rec : LogRecord) → o ≡ Some rec → IsLegal rec) → IsRecordNo (unwrap_or (option_and_then (next_after t) o) (record_before update))
+    by None each = legal.prev
+    by (Some rec) each = or_before (next_after t rec) (λ n. number_after t n rec (each rec refl))
+
+-- a record that takes back what is left of the transaction in a seat is legal
+pub legal_seat_back : (s : SeatsState) (c : CacheState) (seat : ℕ) (t : OpenTxn) (pool : List (Option (List ℕ))) (pages : List CachedPage) (recs : List LogRecord) (v : PageView) (rec : LogRecord) → AreTied s c → txn_in s seat ≡ Some t → All IsLegal recs
+    → TakesBack pool pages (6 * c.log.start) recs t v rec → IsLegal rec
+legal_seat_back s c seat t pool pages recs v rec tie is all takes =
+    let first = 6 * c.log.start in
+    let undo = takes.undo in
+    let numbers = seat_numbers s c seat t tie is in
+    let legal = all_at IsLegal recs (undo.number - first) undo.update all (at_place first recs undo.number undo.update undo.there).1 in
+    legal_back t (next_behind t.begin first recs undo.update) v.ident undo.update rec takes.is legal (number_behind t.begin first recs undo.update all legal) undo.room numbers.0 numbers.1
 
 -- each update is taken back by a record
 pub back_of_update : (t : OpenTxn) (next ident : ℕ) (update : LogRecord) → is_update_of t.begin update ≡ true → (rec : LogRecord) × (compensation_of t next ident update ≡ Some rec)

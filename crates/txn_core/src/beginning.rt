@@ -7,6 +7,7 @@ ghost use Rattle.sd_base.specs.Faults.{Caused, IsStopOf};
 ghost use Rattle.sd_base.specs.declared.shape.Shape.{Shape};
 ghost use Rattle.log_record.specs.declared.record.LogRecord.{LogRecord};
 ghost use Rattle.log_record.specs.declared.record.LogRecord.TheVariants.{Begin, Commit, Abort};
+ghost use Rattle.log_record.specs.Legal.{IsLegal};
 ghost use Rattle.log_record.specs.Text.{record_text};
 ghost use Rattle.private_log.specs.Content.{HoldsFront};
 ghost use Rattle.private_log.specs.Spread.{IsCutLog, IsFreeRegion, IsStill};
@@ -54,6 +55,7 @@ impl Seats {
         ensures pages { c.new.pages ≡ c.old.pages }
         ensures same { SameLog c.old.log c.new.log }
         ensures tail { OnOk result (c.new.log.tail ≡ c.old.log.tail + 1) }
+        ensures rises { OnOk result (c.old.log.stable ≤ c.new.log.stable) }
         ensures seats { OnOk result (self.new.seats ≡ slice_set self.old.seats seat (Some (record { begin = c.old.log.tail; last = c.old.log.tail; left = 0 }))) }
         ensures seats_kept { OnErr result (self.new.seats ≡ self.old.seats) }
         ensures tie { OnOk result (AreTied self.new c.new) }
@@ -63,6 +65,7 @@ impl Seats {
         ensures still { OnErr result (IsTrue D.told → IsStill (region c.old.log) (D.state disk.new).block) }
         ensures records { OnOk result (IsTrue D.told → (recs : List LogRecord) → HasRecords c.old.log (D.state disk.old).block recs → HasRecords c.new.log (D.state disk.new).block (recs ++ Begin ∷ [])) }
         ensures told { OnOk result ((recs : List LogRecord) → 6 * c.old.log.start + length recs ≡ c.old.log.tail → AreTold self.old c.old.log.start recs → AreTold self.new c.old.log.start (recs ++ Begin ∷ [])) }
+        ensures legal { IsLegal Begin }
         ensures cut { OnErr result (IsTrue D.told → (recs : List LogRecord) → HasRecords c.old.log (D.state disk.old).block recs
             → IsCutLog (region c.old.log) c.old.log.start c.old.log.stable (D.state disk.new).block (map record_text (recs ++ Begin ∷ []))) }
         ensures any_outcome { IsTrue D.told → (recs : List LogRecord) → HasRecords c.old.log (D.state disk.old).block recs → (image : ℕ → Option (List ℕ)) → IsOutcome (D.state disk.new).block image

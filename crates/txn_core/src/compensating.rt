@@ -214,11 +214,13 @@ impl Seats {
         ensures outcomes { IsTrue D.told → NarrowsBeside (next_place c.old.log) (D.state disk.old).block (D.state disk.new).block }
         ensures writers { IsTrue D.told → NoNewWriterBut (next_place c.old.log) c.old.node.0 (D.state disk.old).block (D.state disk.new).block }
         ensures foreign { IsTrue D.told → KeepsForeignBut (next_place c.old.log) c.old.node.0 (D.state disk.old).block (D.state disk.new).block }
+        ensures blocks { IsTrue D.told → IfErr result (λ fault. UnlessStopped fault ((D.state disk.new).block ≡ (D.state disk.old).block)) }
         ensures contents { StaysLive result (IsTrue D.told → KeepsContents (next_place c.old.log) (D.state disk.old).block (D.state disk.new).block) }
         ensures node { self.new.node ≡ self.old.node }
         ensures cache_node { c.new.node ≡ c.old.node }
         ensures same { SameLog c.old.log c.new.log }
         ensures tail { OnOk result (c.new.log.tail ≡ c.old.log.tail + 1) }
+        ensures rises { StaysLive result (c.old.log.stable ≤ c.new.log.stable) }
         ensures kept { IfErr result (λ fault. UnlessStopped fault (c.new ≡ c.old)) }
         ensures page { OnOk result ((x : PageNo) × ChangesPage x c.old.log.tail c.old.pages c.new.pages pool.old pool.new) }
         ensures pages_kept { OnErr result (c.new.pages ≡ c.old.pages) }
@@ -237,6 +239,8 @@ impl Seats {
             → TakesBack pool.old c.old.pages (6 * c.old.log.start) recs t v rec → HasRecords c.new.log (D.state disk.new).block (recs ++ rec ∷ [])) }
         ensures told { OnOk result (IsTrue D.told → (recs : List LogRecord) (t : OpenTxn) (v : PageView) (rec : LogRecord) → txn_in self.old seat ≡ Some t → HasRecords c.old.log (D.state disk.old).block recs → AreTold self.old c.old.log.start recs
             → TakesBack pool.old c.old.pages (6 * c.old.log.start) recs t v rec → AreTold self.new c.old.log.start (recs ++ rec ∷ [])) }
+        ensures legal { IsTrue D.told → (recs : List LogRecord) (t : OpenTxn) (v : PageView) (rec : LogRecord) → txn_in self.old seat ≡ Some t → HasRecords c.old.log (D.state disk.old).block recs → AreTold self.old c.old.log.start recs
+            → TakesBack pool.old c.old.pages (6 * c.old.log.start) recs t v rec → IsLegal rec }
         ensures cut { IfErr result (λ fault. OnStop fault (IsTrue D.told → (recs : List LogRecord) (t : OpenTxn) (v : PageView) (rec : LogRecord) → txn_in self.old seat ≡ Some t → HasRecords c.old.log (D.state disk.old).block recs → AreTold self.old c.old.log.start recs
             → TakesBack pool.old c.old.pages (6 * c.old.log.start) recs t v rec → IsCutLog (region c.old.log) c.old.log.start c.old.log.stable (D.state disk.new).block (map record_text (recs ++ rec ∷ [])))) }
         ensures any_outcome { IsTrue D.told → (recs : List LogRecord) (t : OpenTxn) (v : PageView) (rec : LogRecord) → txn_in self.old seat ≡ Some t → HasRecords c.old.log (D.state disk.old).block recs → AreTold self.old c.old.log.start recs

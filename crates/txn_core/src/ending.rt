@@ -5,6 +5,7 @@ ghost use Rattle.sd_base.specs.Calls.{Keeps, NoNewWriterBut, KeepsForeignBut};
 ghost use Rattle.sd_base.specs.Faults.{Caused, IsStopOf};
 ghost use Rattle.sd_base.specs.declared.shape.Shape.{Shape};
 ghost use Rattle.log_record.specs.declared.record.LogRecord.{LogRecord};
+ghost use Rattle.log_record.specs.Legal.{IsLegal};
 ghost use Rattle.log_record.specs.Record.{page_op_of};
 ghost use Rattle.log_record.specs.Text.{record_text};
 ghost use Rattle.private_log.specs.Content.{HoldsFront};
@@ -106,6 +107,7 @@ impl Seats {
         ensures still { OnErr result (IsTrue D.told → IsStill (region c.old.log) (D.state disk.new).block) }
         ensures records { OnOk result (IsTrue D.told → (recs : List LogRecord) → (t : OpenTxn) → txn_in self.old seat ≡ Some t → HasRecords c.old.log (D.state disk.old).block recs → HasRecords c.new.log (D.state disk.new).block (recs ++ end_record ending t ∷ [])) }
         ensures told { OnOk result ((recs : List LogRecord) → (t : OpenTxn) → txn_in self.old seat ≡ Some t → 6 * c.old.log.start + length recs ≡ c.old.log.tail → AreTold self.old c.old.log.start recs → AreTold self.new c.old.log.start (recs ++ end_record ending t ∷ [])) }
+        ensures legal { (t : OpenTxn) → txn_in self.old seat ≡ Some t → IsLegal (end_record ending t) }
         ensures cut { OnErr result (IsTrue D.told → (recs : List LogRecord) → (t : OpenTxn) → txn_in self.old seat ≡ Some t → HasRecords c.old.log (D.state disk.old).block recs
             → IsCutLog (region c.old.log) c.old.log.start c.old.log.stable (D.state disk.new).block (map record_text (recs ++ end_record ending t ∷ []))) }
         ensures any_outcome { IsTrue D.told → (recs : List LogRecord) → (t : OpenTxn) → txn_in self.old seat ≡ Some t → HasRecords c.old.log (D.state disk.old).block recs → (image : ℕ → Option (List ℕ)) → IsOutcome (D.state disk.new).block image

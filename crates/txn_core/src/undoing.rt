@@ -1,12 +1,13 @@
 //! Which update is to be taken back next: the log is followed from record to record.
 
-ghost use Rattle.std.specs.Prelude.{◌≡◌, ◌≢◌, ◌*◌, ◌≤◌, ◌<◌, ℕ, true, false, [], ◌∷◌, ◌++◌, List, Option, Some, None, IsTrue, IfOk, IfErr, IfSome, MatchOption};
+ghost use Rattle.std.specs.Prelude.{◌≡◌, ◌≢◌, ◌*◌, ◌≤◌, ◌<◌, ℕ, true, false, [], ◌∷◌, ◌++◌, List, Option, Some, None, IsTrue, IfOk, IfErr, IfSome, MatchOption, map};
 ghost use Rattle.sd_base.specs.Calls.{Keeps, KeepsForeign, Narrows, NoNewWriter};
 ghost use Rattle.sd_base.specs.Faults.{Caused, IsStopOf, OnStop, StaysLive};
 ghost use Rattle.log_record.specs.declared.record.LogRecord.{LogRecord};
 ghost use Rattle.log_record.specs.Legal.{IsLegal, IsRecordNo};
 ghost use Rattle.log_record.specs.Record.{page_op_of};
-ghost use Rattle.private_log.specs.Spread.{IsFreeRegion, IsStill};
+ghost use Rattle.log_record.specs.Text.{record_text};
+ghost use Rattle.private_log.specs.Spread.{IsCutLog, IsFreeRegion, IsStill};
 ghost use Rattle.private_log.specs.Frames.{IsInReach};
 ghost use Rattle.private_log.specs.Log.{region};
 ghost use Rattle.private_log.specs.Reading.{IsLogFault};
@@ -162,6 +163,8 @@ impl Seats {
         ensures foreign { IsTrue D.told → KeepsForeign c.now.node.0 (D.state disk.old).block (D.state disk.new).block }
         ensures blocks { IsTrue D.told → StaysLive result ((D.state disk.new).block ≡ (D.state disk.old).block) }
         ensures still { IfErr result (λ fault. OnStop fault (IsTrue D.told → IsFreeRegion (region c.now.log) c.now.node.0 (D.state disk.old).block → IsStill (region c.now.log) (D.state disk.new).block)) }
+        ensures cut { IfErr result (λ fault. OnStop fault (IsTrue D.told → IsFreeRegion (region c.now.log) c.now.node.0 (D.state disk.old).block → (recs : List LogRecord) → HasRecords c.now.log (D.state disk.old).block recs
+            → IsCutLog (region c.now.log) c.now.log.start c.now.log.stable (D.state disk.new).block (map record_text recs))) }
         ensures left { IfOk result (λ o. (t : OpenTxn) → txn_in self.now seat ≡ Some t → MatchOption o (t.left ≡ 0) (λ u. 1 ≤ t.left)) }
         ensures within { IfOk result (λ o. IfSome o (λ u. (t : OpenTxn) → txn_in self.now seat ≡ Some t → (t.begin < u.0) × (u.0 ≤ t.last))) }
         ensures found { IfOk result (λ o. IsTrue D.told → (recs : List LogRecord) (t : OpenTxn) → txn_in self.now seat ≡ Some t → HasRecords c.now.log (D.state disk.old).block recs → AreTold self.now c.now.log.start recs
@@ -205,6 +208,8 @@ impl Seats {
         ensures foreign { IsTrue D.told → KeepsForeign c.now.node.0 (D.state disk.old).block (D.state disk.new).block }
         ensures blocks { IsTrue D.told → StaysLive result ((D.state disk.new).block ≡ (D.state disk.old).block) }
         ensures still { IfErr result (λ fault. OnStop fault (IsTrue D.told → IsFreeRegion (region c.now.log) c.now.node.0 (D.state disk.old).block → IsStill (region c.now.log) (D.state disk.new).block)) }
+        ensures cut { IfErr result (λ fault. OnStop fault (IsTrue D.told → IsFreeRegion (region c.now.log) c.now.node.0 (D.state disk.old).block → (recs : List LogRecord) → HasRecords c.now.log (D.state disk.old).block recs
+            → IsCutLog (region c.now.log) c.now.log.start c.now.log.stable (D.state disk.new).block (map record_text recs))) }
         ensures within { IfOk result (λ o. IfSome o (λ u. (t : OpenTxn) → txn_in self.now seat ≡ Some t → (t.begin < u.0) × (u.0 < number))) }
         ensures found { IfOk result (λ o. IsTrue D.told → (recs : List LogRecord) (t : OpenTxn) (behind before : List ℕ) → txn_in self.now seat ≡ Some t → HasRecords c.now.log (D.state disk.old).block recs → AreTold self.now c.now.log.start recs
             → uncompensated t.begin (6 * c.now.log.start) recs ≡ behind ++ number ∷ before

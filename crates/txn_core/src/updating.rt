@@ -7,6 +7,7 @@ ghost use Rattle.sd_base.specs.Faults.{Caused, IsStopOf};
 ghost use Rattle.sd_base.specs.declared.page_op.PageOp.{PageOp};
 ghost use Rattle.sd_base.specs.declared.shape.Shape.{Shape};
 ghost use Rattle.log_record.specs.declared.record.LogRecord.{LogRecord};
+ghost use Rattle.log_record.specs.Legal.{IsLegal};
 ghost use Rattle.log_record.specs.Record.{change_of};
 ghost use Rattle.page_image.specs.declared.page_view.PageView.{PageView};
 ghost use Rattle.page_image.specs.Image.{IsTextOf};
@@ -120,6 +121,7 @@ impl Seats {
         ensures cache_node { c.new.node ≡ c.old.node }
         ensures same { SameLog c.old.log c.new.log }
         ensures tail { OnOk result (c.new.log.tail ≡ c.old.log.tail + 1) }
+        ensures rises { OnOk result (c.old.log.stable ≤ c.new.log.stable) }
         ensures pages { OnOk result (c.new.pages ≡ with_page x (changed_by c.old.log.tail) c.old.pages) }
         ensures pages_kept { OnErr result (c.new.pages ≡ c.old.pages) }
         ensures frames { (p : CachedPage) → page_at x c.old.pages ≡ Some p → KeepsFrames p.frame pool.old pool.new }
@@ -135,6 +137,7 @@ impl Seats {
         ensures still { OnErr result (IsTrue D.told → IsStill (region c.old.log) (D.state disk.new).block) }
         ensures records { OnOk result (IsTrue D.told → (recs : List LogRecord) (t : OpenTxn) (v : PageView) → txn_in self.old seat ≡ Some t → HasPage pool.old c.old.pages x v → HasRecords c.old.log (D.state disk.old).block recs → HasRecords c.new.log (D.state disk.new).block (recs ++ update_of t v slot what.now ∷ [])) }
         ensures told { OnOk result ((recs : List LogRecord) (t : OpenTxn) (v : PageView) → txn_in self.old seat ≡ Some t → HasPage pool.old c.old.pages x v → 6 * c.old.log.start + length recs ≡ c.old.log.tail → AreTold self.old c.old.log.start recs → AreTold self.new c.old.log.start (recs ++ update_of t v slot what.now ∷ [])) }
+        ensures legal { (t : OpenTxn) (v : PageView) → txn_in self.old seat ≡ Some t → HasPage pool.old c.old.pages x v → IsLegal (update_of t v slot what.now) }
         ensures cut { OnErr result (IsTrue D.told → (recs : List LogRecord) (t : OpenTxn) (v : PageView) → txn_in self.old seat ≡ Some t → HasPage pool.old c.old.pages x v → HasRecords c.old.log (D.state disk.old).block recs
             → IsCutLog (region c.old.log) c.old.log.start c.old.log.stable (D.state disk.new).block (map record_text (recs ++ update_of t v slot what.now ∷ []))) }
         ensures any_outcome { IsTrue D.told → (recs : List LogRecord) (t : OpenTxn) (v : PageView) → txn_in self.old seat ≡ Some t → HasPage pool.old c.old.pages x v → HasRecords c.old.log (D.state disk.old).block recs → (image : ℕ → Option (List ℕ)) → IsOutcome (D.state disk.new).block image

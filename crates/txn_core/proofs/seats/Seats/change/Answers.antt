@@ -14,7 +14,7 @@ use Rattle.txn_core.specs.Seats.{AreTied, OpenTxn, txn_in}
 use Rattle.txn_core.specs.Shown.{shown}
 use Rattle.txn_core.specs.Told.{AreTold}
 use Rattle.txn_core.specs.Updates.{HasPage, op_of, update_of}
-use Rattle.txn_core.proofs.SeatLaws.{busy_below, legal_more, seat_lies, seats_state}
+use Rattle.txn_core.proofs.SeatLaws.{busy_below, legal_more, seat_lies, seat_numbers, seats_state}
 use Rattle.txn_core.proofs.UpdateLaws.{legal_update, op_update, page_updated, slot_update, tied_updated, told_updated, viewed}
 use Rattle.txn_core.proofs.seats.Seats.change.Goals as goal
 
@@ -22,12 +22,10 @@ pub change-requires-clause-legal : goal.change-requires-clause-legal
 change-requires-clause-legal g c =
     let page = c.requires.page in
     let own = viewed c.args.pool.now c.args.c.now.pages c.args.x page.0 c.view.result.now page.1 c.view.ensures in
-    let below = busy_below c.args.self.now c.args.seat (shown c.open_in-txn.result) c.open_in-txn.ensures in
-    let lies = seat_lies c.args.self.now c.args.c.now c.args.seat (shown c.open_in-txn.result) c.requires.tie below c.open_in-txn.ensures in
-    let room = c.requires.room in
+    let numbers = seat_numbers c.args.self.now c.args.c.now c.args.seat (shown c.open_in-txn.result) c.requires.tie c.open_in-txn.ensures in
     let small : c.args.x.0 < 2 ^ 32 = search rules in
     subst IsLegal (sym (c.update-rec.ensures page.0 page.1.number own))
-    (legal_update (shown c.open_in-txn.result) page.0 c.view.result.now c.args.slot c.args.what.now own (subst (λ y. y.0 < 2 ^ 32) (sym page.1.number) small) page.2 (omega (arith, lies.1, lies.2, room)) (omega (arith, lies.2, room)) c.requires.slot page.3)
+    (legal_update (shown c.open_in-txn.result) page.0 c.view.result.now c.args.slot c.args.what.now own (subst (λ y. y.0 < 2 ^ 32) (sym page.1.number) small) page.2 numbers.0 numbers.1 c.requires.slot page.3)
 
 pub returns-in_err-change-clause-cut : goal.returns-in_err-change-clause-cut
 returns-in_err-change-clause-cut g c = on_err c.from_residual.result (λ told recs t v is has log.
@@ -101,11 +99,10 @@ returns-clause-records g c = λ told recs t v is has log.
     let texts : map record_text recs ++ record_text c.update-rec.result ∷ [] ≡ map record_text (recs ++ update_of t v c.args.slot c.args.what.now ∷ []) = ap (λ r. map record_text recs ++ record_text r ∷ []) made ∙ sym (map-append record_text recs (update_of t v c.args.slot c.args.what.now ∷ [])) in
     let page = c.requires.page in
     let own = viewed c.args.pool.now c.args.c.now.pages c.args.x page.0 c.view.result.now page.1 c.view.ensures in
-    let lies = seat_lies c.args.self.now c.args.c.now c.args.seat t c.requires.tie (busy_below c.args.self.now c.args.seat t is) is in
-    let room = c.requires.room in
+    let numbers = seat_numbers c.args.self.now c.args.c.now c.args.seat t c.requires.tie is in
     let small : c.args.x.0 < 2 ^ 32 = search rules in
     let legal : IsLegal c.update-rec.result = subst IsLegal (sym (c.update-rec.ensures page.0 page.1.number own ∙ ap (λ u. update_of u page.0 c.args.slot c.args.what.now) same))
-    (legal_update t page.0 c.view.result.now c.args.slot c.args.what.now own (subst (λ y. y.0 < 2 ^ 32) (sym page.1.number) small) page.2 (omega (arith, lies.1, lies.2, room)) (omega (arith, lies.2, room)) c.requires.slot page.3) in
+    (legal_update t page.0 c.view.result.now c.args.slot c.args.what.now own (subst (λ y. y.0 < 2 ^ 32) (sym page.1.number) small) page.2 numbers.0 numbers.1 c.requires.slot page.3) in
     record {
       legal = legal_more recs (update_of t v c.args.slot c.args.what.now) log.legal (subst IsLegal made legal);
       on = subst (IsLogOn c.change.new.self.log (g.D.Disk.state c.change.new.disk).block) texts (c.in_ok-change.ensures.log told (map record_text recs) log.on);

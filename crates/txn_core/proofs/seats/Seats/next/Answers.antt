@@ -1,6 +1,7 @@
 use Rattle.std.proofs.Common.{rules, ◌≡◌, ◌≤◌, ◌*◌, [], true, Some, IfSome, MatchOption, refl, subst, sym, ◌∙◌}
 use Rattle.compensation.specs.Left.{is_update_of, uncompensated}
 use Rattle.compensation.specs.Finding.{newest, record_at}
+use Rattle.txn_core.proofs.Stops.{on_fault, read_cut}
 use Rattle.txn_core.proofs.seats.Seats.next.Goals as goal
 
 pub returns-in_err-number-clause-there : goal.returns-in_err-number-clause-there
@@ -19,3 +20,8 @@ returns-in_default-clause-left g c = λ t is. subst (λ o. MatchOption o (t.left
 
 pub returns-in-Some-page_op-clause-left : goal.returns-in-Some-page_op-clause-left
 returns-in-Some-page_op-clause-left g c = λ t is. subst (λ o. MatchOption o (t.left ≡ 0) (λ u. 1 ≤ t.left)) c.in-Some.is (c.in_ok-number.ensures.left t is)
+
+pub returns-in_err-number-clause-cut : goal.returns-in_err-number-clause-cut
+returns-in_err-number-clause-cut g c =
+    on_fault _ c.from_residual.result c.in_err-number.field-0.0 (search rules)
+    (read_cut c.in_err-number.field-0.0 g.D.Disk.told c.args.c.now.log c.args.c.now.node.0 (g.D.Disk.state c.args.disk.now).block (g.D.Disk.state c.next_update.new.disk).block (λ told k. g.met.D.Disk.lawful c.next_update.new.disk k told) c.next_update.ensures.outcomes c.in_err-number.ensures.still)

@@ -1,10 +1,14 @@
-use Rattle.std.proofs.Common.{rules, ◌≡◌, ◌*◌, ◌++◌, ◌∷◌, true, Some, IfSome, arith, inl, inr, ap, refl, subst, sym, ◌∙◌}
+use Rattle.std.proofs.Common.{rules, ◌≡◌, ◌*◌, ◌++◌, ◌∷◌, true, Some, IsTrue, IfSome, arith, inl, inr, ap, refl, subst, sym, ◌∙◌}
+use Rattle.sd_base.specs.Faults.{OnStop}
 use Rattle.log_record.specs.Record.{page_op_of}
+use Rattle.private_log.specs.Log.{region}
+use Rattle.private_log.specs.Spread.{IsFreeRegion, IsStill}
 use Rattle.compensation.specs.Left.{is_update_of, uncompensated}
 use Rattle.compensation.specs.Finding.{record_at}
 use Rattle.compensation.proofs.FindingLaws.{update_left}
 use Rattle.txn_core.specs.Shown.{shown}
 use Rattle.txn_core.specs.Told.{HasRecords}
+use Rattle.txn_core.proofs.Stops.{read_cut, stop_then}
 use Rattle.txn_core.proofs.TakeBackLaws.{before_within}
 use Rattle.txn_core.proofs.UndoLaws.{page_of_update, seat_told, walk}
 use Rattle.txn_core.proofs.seats.Seats.next_before.Goals as goal
@@ -110,3 +114,25 @@ returns-in-None-clause-there g c = λ told recs t behind before is has tells lef
           page_of_update (shown c.open_in-txn.result).begin up.0 up.2 (ap page_op_of one ∙ sym c.page_op.ensures ∙ c.in-None.is)
     ] in
     absurd never
+
+pub returns-in_err-update-clause-cut : goal.returns-in_err-update-clause-cut
+returns-in_err-update-clause-cut g c =
+    let own = subst (λ l. OnStop c.in_err-update.field-0.0 (IsTrue g.D.Disk.told → IsFreeRegion (region l) l.node.0 (g.D.Disk.state c.args.disk.now).block → IsStill (region l) (g.D.Disk.state c.read_record.new.disk).block)) c.log.ensures c.in_err-update.ensures.still in
+    let stop = read_cut c.in_err-update.field-0.0 g.D.Disk.told c.args.c.now.log c.args.c.now.node.0 (g.D.Disk.state c.args.disk.now).block (g.D.Disk.state c.read_record.new.disk).block (λ told k. g.met.D.Disk.lawful c.read_record.new.disk k told) c.read_record.ensures.outcomes
+    (stop_then c.in_err-update.field-0.0 own (λ still told free. still told (subst (λ n. IsFreeRegion (region c.args.c.now.log) n.0 (g.D.Disk.state c.args.disk.now).block) (sym c.requires.log_tie.node) free))) in
+    search (rules, stop)
+
+pub returns-in_err-next-clause-cut : goal.returns-in_err-next-clause-cut
+returns-in_err-next-clause-cut g c =
+    let stop = read_cut c.in_err-next.field-0.0 g.D.Disk.told c.args.c.now.log c.args.c.now.node.0 (g.D.Disk.state c.args.disk.now).block (g.D.Disk.state c.next_behind.new.disk).block (λ told k. g.met.D.Disk.lawful c.next_behind.new.disk k told)
+    (λ told k o may. c.read_record.ensures.outcomes told k o (c.next_behind.ensures.outcomes told k o may))
+    (stop_then c.in_err-next.field-0.0 c.in_err-next.ensures.still (λ still told free. still told (subst (IsFreeRegion (region c.args.c.now.log) c.args.c.now.node.0) (sym (c.in_ok-update.ensures.blocks told)) free))) in
+    search (rules, stop)
+
+pub returns-in_err-before-clause-cut : goal.returns-in_err-before-clause-cut
+returns-in_err-before-clause-cut g c =
+    let own = subst (λ l. OnStop c.in_err-before.field-0.0 (IsTrue g.D.Disk.told → IsFreeRegion (region l) l.node.0 (g.D.Disk.state c.next_behind.new.disk).block → IsStill (region l) (g.D.Disk.state c.read_record-2.new.disk).block)) c.log-2.ensures c.in_err-before.ensures.still in
+    let stop = read_cut c.in_err-before.field-0.0 g.D.Disk.told c.args.c.now.log c.args.c.now.node.0 (g.D.Disk.state c.args.disk.now).block (g.D.Disk.state c.read_record-2.new.disk).block (λ told k. g.met.D.Disk.lawful c.read_record-2.new.disk k told)
+    (λ told k o may. c.read_record.ensures.outcomes told k o (c.next_behind.ensures.outcomes told k o (c.read_record-2.ensures.outcomes told k o may)))
+    (stop_then c.in_err-before.field-0.0 own (λ still told free. still told (subst (λ n. IsFreeRegion (region c.args.c.now.log) n.0 (g.D.Disk.state c.next_behind.new.disk).block) (sym c.requires.log_tie.node) (subst (IsFreeRegion (region c.args.c.now.log) c.args.c.now.node.0) (sym (c.in_ok-next.ensures.blocks told ∙ c.in_ok-update.ensures.blocks told)) free)))) in
+    search (rules, stop)

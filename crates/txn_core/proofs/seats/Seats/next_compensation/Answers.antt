@@ -1,8 +1,8 @@
-use Rattle.std.proofs.Common.{◌≡◌, ◌*◌, Some, arith, ap, subst, sym, ◌∙◌}
+use Rattle.std.proofs.Common.{◌≡◌, ◌*◌, Some, ap, subst, sym, ◌∙◌}
 use Rattle.compensation.specs.Finding.{next_behind}
 use Rattle.txn_core.specs.Shown.{shown}
 use Rattle.txn_core.specs.Undo.{IsPageOf, compensation_of}
-use Rattle.txn_core.proofs.SeatLaws.{busy_below, room_for_end, seat_lies}
+use Rattle.txn_core.proofs.SeatLaws.{seat_numbers}
 use Rattle.txn_core.proofs.TakeBackLaws.{back_of_update, legal_back, one_back, one_update}
 use Rattle.txn_core.proofs.UndoLaws.{newest_update, seat_told}
 use Rattle.txn_core.proofs.seats.Seats.next_compensation.Goals as goal
@@ -10,10 +10,8 @@ use Rattle.txn_core.proofs.seats.Seats.next_compensation.Goals as goal
 pub returns-in-Some-clause-legal : goal.returns-in-Some-clause-legal
 returns-in-Some-clause-legal g c =
     let made = c.in-Some.ensures.made in
-    let below = busy_below c.args.self.now c.args.seat (shown c.open_in-txn.result) c.open_in-txn.ensures in
-    let lies = seat_lies c.args.self.now c.args.c.now c.args.seat (shown c.open_in-txn.result) c.requires.tie below c.open_in-txn.ensures in
-    let room = room_for_end c.args.self.now c.args.c.now c.args.seat c.requires.tie below c.requires.busy in
-    legal_back (shown c.open_in-txn.result) c.in_ok-update.next made.0.ident c.in_ok-update.update c.in-Some.rec made.4 c.in_ok-update.ensures.legal c.in_ok-update.ensures.number made.2 (omega (arith, lies.1, lies.2, room)) (omega (arith, lies.2, room))
+    let numbers = seat_numbers c.args.self.now c.args.c.now c.args.seat (shown c.open_in-txn.result) c.requires.tie c.open_in-txn.ensures in
+    legal_back (shown c.open_in-txn.result) c.in_ok-update.next made.0.ident c.in_ok-update.update c.in-Some.rec made.4 c.in_ok-update.ensures.legal c.in_ok-update.ensures.number made.2 numbers.0 numbers.1
 
 pub returns-in-Some-clause-found : goal.returns-in-Some-clause-found
 returns-in-Some-clause-found g c = λ told recs t is has tells v other takes.

@@ -24,9 +24,9 @@ use Rattle.txn_core.specs.Shown.{shown}
 use Rattle.txn_core.specs.Told.{AreTold, HasRecords}
 use Rattle.txn_core.specs.Undo.{TakesBack}
 use Rattle.txn_core.specs.Updates.{HasPage}
-use Rattle.txn_core.proofs.SeatLaws.{busy_below, legal_more, owed_at, seat_lies, seats_state}
+use Rattle.txn_core.proofs.SeatLaws.{busy_below, legal_more, owed_at, raised, seat_lies, seats_state}
 use Rattle.txn_core.proofs.Stops.{cut_more, front_more, on_stop, stays_then, stop_then}
-use Rattle.txn_core.proofs.TakeBackLaws.{change_back, tied_taken_back, told_taken_back}
+use Rattle.txn_core.proofs.TakeBackLaws.{change_back, legal_seat_back, tied_taken_back, told_taken_back}
 use Rattle.txn_core.proofs.UpdateLaws.{page_updated}
 use Rattle.node_cache.proofs.ChangedPages.{out_of_shown}
 use Rattle.txn_core.proofs.seats.Seats.take_back_one.Goals as goal
@@ -164,3 +164,15 @@ returns-clause-any_outcome g c = λ told recs t v rec is has tells takes image o
     let texts : map record_text recs ++ record_text c.in_ok-rec.rec ∷ [] ≡ map record_text (recs ++ rec ∷ []) = ap (λ r. map record_text recs ++ record_text r ∷ []) (sym made) ∙ sym (map-append record_text recs (rec ∷ [])) in
     subst (λ xs. HoldsFront (region c.args.c.now.log) c.args.c.now.log.start c.args.c.now.log.stable xs image) texts
     (c.change.ensures.any_outcome told (map record_text recs) (subst (λ b. IsLogOn c.args.c.now.log b (map record_text recs)) (sym (c.in_ok-rec.ensures.blocks told)) has.on) image out)
+
+pub returns-clause-rises : goal.returns-clause-rises
+returns-clause-rises g c = raised c.args.c.now.log c.change.new.self.log c.in_ok-number.ensures.stable_in_memory c.in_ok-number.ensures.stable_written
+
+pub returns-in_err-rec-clause-legal : goal.returns-in_err-rec-clause-legal
+returns-in_err-rec-clause-legal g c = λ told recs t v rec is has tells takes. legal_seat_back c.args.self.now c.args.c.now c.args.seat t c.args.pool.now c.args.c.now.pages recs v rec c.requires.tie is has.legal takes
+
+pub returns-in_err-number-clause-legal : goal.returns-in_err-number-clause-legal
+returns-in_err-number-clause-legal g c = λ told recs t v rec is has tells takes. legal_seat_back c.args.self.now c.args.c.now c.args.seat t c.args.pool.now c.args.c.now.pages recs v rec c.requires.tie is has.legal takes
+
+pub returns-clause-legal : goal.returns-clause-legal
+returns-clause-legal g c = λ told recs t v rec is has tells takes. legal_seat_back c.args.self.now c.args.c.now c.args.seat t c.args.pool.now c.args.c.now.pages recs v rec c.requires.tie is has.legal takes
