@@ -18,6 +18,7 @@ use Rattle.record_machine.proofs.DeedSteps.{tail_longer}
 use Rattle.record_machine.proofs.Newest.{IsNewest, all_rest, at_newest, filter_rest, length_rest, logged_newest, logged_rest, newest_is, no_keys, no_writes, none_newest, own_seat, seen_before, seen_rest, some_write, written_it, written_less, written_rest, writes_rest}
 use Rattle.record_machine.proofs.PageSteps.{pages_written}
 use Rattle.record_machine.proofs.Put.{at_or_off, put_same}
+use Rattle.record_machine.proofs.RestSteps.{pages_rest}
 use Rattle.record_machine.proofs.SealSteps.{not_written, one_writer, other_seat, same_or_not, seen_nothing}
 
 -- the part, where there is such a write
@@ -88,10 +89,11 @@ present_own m t d w is write locked = λ u alone. by u alone (same_or_not t u)
 pub pages_back : (p : Plain) (m : Machine) (t : TxnId) (d : Deed) (w : Write) (rec : LogRecord) (v : PageView) → newest_of m t ≡ Some d → d.write ≡ Some w → home m w.key ≡ Some w.page → IsChangedAt (slot_of_key w.key) (seen (taken_back t (Some w) m) t w.key) (p.pages w.page) v
     → AreLocked m → ArePages p m → ArePages (logged t.node.0 rec (with_page w.page v p)) (taken_back t (Some w) m)
 pages_back p m t d w rec v is write here changed locked was =
-    pages_written w.key w.page t.node.0 (seen (taken_back t (Some w) m) t w.key) (taken_back t (Some w) m).pending (taken_back t (Some w) m).tail p m rec v here changed
+    pages_rest (logged t.node.0 rec (with_page w.page v p)) (record m { pending = (taken_back t (Some w) m).pending; ident = (taken_back t (Some w) m).ident; tail = (taken_back t (Some w) m).tail }) m.mode m.reopening m.hold m.first (taken_back t (Some w) m).loose m.gone
+    (pages_written w.key w.page t.node.0 (seen (taken_back t (Some w) m) t w.key) (taken_back t (Some w) m).pending (taken_back t (Some w) m).tail p m rec v here changed
     (present_own m t d w is write locked)
     (λ other u apart. present_others m t d w other u is write apart)
-    was
+    was)
 
 pub locked_back : (m : Machine) (t : TxnId) (d : Deed) (w : Write) → newest_of m t ≡ Some d → AreLocked m → AreLocked (taken_back t (Some w) m)
 locked_back m t d w is was = record { apart = was.apart; written = λ u key any. was.written u key (back_less m t u d w key.0 is any) }

@@ -17,6 +17,7 @@ use Rattle.record_machine.specs.Meaning.{ArePages, IsChangedAt, IsPresent, Plain
 use Rattle.record_machine.proofs.Deeds.{writes_none, writes_other}
 use Rattle.record_machine.proofs.DeedSteps.{deed, present_kept, present_now}
 use Rattle.record_machine.proofs.Homes.{free_is_no_home, home_is_data, one_group}
+use Rattle.record_machine.proofs.RestSteps.{pages_rest}
 use Rattle.record_machine.proofs.Put.{at_or_off, put_other, put_same}
 
 -- ---- a transaction begins
@@ -97,10 +98,11 @@ pages_written key x n value pending tail p m rec v here changed now kept was = r
 -- as a transaction writes a record
 pub pages_changed : (t : TxnId) (w : Write) (p : Plain) (m : Machine) (rec : LogRecord) (v : PageView) → home m w.key ≡ Some w.page → IsChangedAt (slot_of_key w.key) w.value (p.pages w.page) v → ArePages p m → ArePages (logged t.node.0 rec (with_page w.page v p)) (one (Change t w) m)
 pages_changed t w p m rec v here changed was =
-    pages_written w.key w.page t.node.0 w.value (one (Change t w) m).pending (one (Change t w) m).tail p m rec v here changed
+    pages_rest (logged t.node.0 rec (with_page w.page v p)) (done_by t (Some w) raised) m.mode m.reopening m.hold m.first (one (Change t w) m).loose m.gone
+    (pages_written w.key w.page t.node.0 w.value (one (Change t w) m).pending (one (Change t w) m).tail p m rec v here changed
     (present_now t w raised)
     (λ other u apart. present_kept t (Some w) raised other u (λ seat. writes_other seat other (deed t (Some w) raised) w refl apart))
-    was
+    was)
   where
     raised : Machine
     raised = record m { ident = put w.page (m.ident w.page + 1) m.ident }

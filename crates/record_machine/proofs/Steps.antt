@@ -22,6 +22,7 @@ use Rattle.record_machine.proofs.DeedSteps.{locked_done, logs_done}
 use Rattle.record_machine.proofs.LockSteps.{locked_dropped, locked_taken, logs_still, pages_still}
 use Rattle.record_machine.proofs.PageSteps.{pages_begun, pages_changed}
 use Rattle.record_machine.proofs.Put.{put_same}
+use Rattle.record_machine.proofs.RestSteps.{locked_rest, logs_rest, means_loose}
 use Rattle.record_machine.proofs.SealSteps.{locked_sealed, logs_sealed, pages_sealed}
 use Rattle.record_machine.proofs.Homes.{home_is_data}
 use Rattle.record_machine.proofs.Tops.{tops_back, tops_begun, tops_changed, tops_sealed, tops_used}
@@ -33,12 +34,12 @@ dos-then [] qs m = refl
 dos-then (p ∷ ps) qs m = dos-then ps qs (one p m)
 
 pub means_begun : (p : Plain) (m : Machine) (t : TxnId) → Means p m → Means (logged t.node.0 Begin p) (one (part.Begin t) m)
-means_begun p m t means = record {
+means_begun p m t means = means_loose (logged t.node.0 Begin p) (done_by t None m) (one (part.Begin t) m).loose (record {
   pages = pages_begun t p m means.pages;
   logs = logs_done t None m p Begin (λ none. refl) tt tt means.logs;
   locked = locked_done t None m tt means.locked;
   tops = tops_begun t m means.tops;
-}
+})
 
 pub means_used : (p : Plain) (m : Machine) (n place key : ℕ) (rec : LogRecord) (map : MapImage) → home m key ≡ None → free_place m key ≡ Some place → IsUsed m (map_of_key m.shape key) place (group_of key) (p.maps (map_of_key m.shape key)) map
     → Means p m → Means (logged n rec (with_map (map_of_key m.shape key) map p)) (one (part.Use n (map_of_key m.shape key) place (group_of key)) m)
@@ -61,10 +62,15 @@ pub means_changed : (p : Plain) (m : Machine) (t : TxnId) (w : Write) (rec : Log
     → m.ident w.page < 2 ^ 63 → ((n : ℕ) → 1 ≤ n → n ≤ m.shape.nodes → owed m n ≤ 6 * m.shape.ring) → Means p m → Means (logged t.node.0 rec (with_page w.page v p)) (one (part.Change t w) m)
 means_changed p m t w rec v here lock tells changed room owing means = record {
   pages = pages_changed t w p m rec v here changed means.pages;
-  logs = logs_done t (Some w) (record m { ident = put w.page (m.ident w.page + 1) m.ident }) (with_page w.page v p) rec (λ none. cc) tells here (record { tail = means.logs.tail; deeds = means.logs.deeds; homes = means.logs.homes });
-  locked = locked_done t (Some w) (record m { ident = put w.page (m.ident w.page + 1) m.ident }) (λ key same. subst (λ k. mode_of m.locks (record { 0 = k }) t ≡ Some locks.Write) (sym same) lock) (record { apart = means.locked.apart; written = means.locked.written });
+  logs = logs_rest (logged t.node.0 rec (with_page w.page v p)) (done_by t (Some w) raised) m.mode m.reopening m.hold m.first (one (part.Change t w) m).loose m.gone
+      (logs_done t (Some w) raised (with_page w.page v p) rec (λ none. cc) tells here (record { tail = means.logs.tail; deeds = means.logs.deeds; homes = means.logs.homes }));
+  locked = locked_rest (done_by t (Some w) raised) m.mode m.reopening m.hold m.first (one (part.Change t w) m).loose m.gone
+      (locked_done t (Some w) raised (λ key same. subst (λ k. mode_of m.locks (record { 0 = k }) t ≡ Some locks.Write) (sym same) lock) (record { apart = means.locked.apart; written = means.locked.written }));
   tops = tops_changed t w m means.pages.shape room owing means.tops;
 }
+  where
+    raised : Machine
+    raised = record m { ident = put w.page (m.ident w.page + 1) m.ident }
 
 pub means_back : (p : Plain) (m : Machine) (t : TxnId) (d : Deed) (w : Write) (rec : LogRecord) (v : PageView) → newest_of m t ≡ Some d → d.write ≡ Some w → 1 ≤ t.node.0 → t.node.0 ≤ m.shape.nodes → IsChangedAt (slot_of_key w.key) (seen (one (part.Back t) m) t w.key) (p.pages w.page) v
     → Means p m → Means (logged t.node.0 rec (with_page w.page v p)) (one (part.Back t) m)

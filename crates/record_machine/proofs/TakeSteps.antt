@@ -4,8 +4,8 @@ use Rattle.std.specs.List.{flat_map}
 use Rattle.script_text.specs.declared.command.Command.{Command}
 use Rattle.script_text.specs.declared.command.Command.TheVariants as asks
 use Rattle.record_machine.specs.Commands.{takes, takes_both, takes_written, target}
-use Rattle.record_machine.specs.Machine.{Deed, Machine, Write, home, put, writes_of}
-use Rattle.record_machine.specs.Parts.{Part, Start, Take, Begin, Use, Lock, Change, Back, Seal, Unlock, dos}
+use Rattle.record_machine.specs.Machine.{Deed, LooseChange, Machine, Write, home, put, writes_of}
+use Rattle.record_machine.specs.Parts.{Part, Start, Take, Drop, Begin, Use, FreePlace, Lock, Change, Back, Seal, Unlock, Sure, dos, loose_after_take}
 
 -- ---- lists of pages that are taken
 
@@ -13,13 +13,16 @@ abbrev AreTakes : List Part → Type 0
 AreTakes [] = ⊤
 AreTakes (Take x n ∷ ps) = AreTakes ps
 AreTakes (Start n ∷ ps) = ⊥
+AreTakes (Drop x ∷ ps) = ⊥
 AreTakes (Begin t ∷ ps) = ⊥
 AreTakes (Use n map place g ∷ ps) = ⊥
+AreTakes (FreePlace n map place ∷ ps) = ⊥
 AreTakes (Lock key t mode ∷ ps) = ⊥
 AreTakes (Change t w ∷ ps) = ⊥
 AreTakes (Back t ∷ ps) = ⊥
 AreTakes (Seal t ∷ ps) = ⊥
 AreTakes (Unlock t ∷ ps) = ⊥
+AreTakes (Sure n ∷ ps) = ⊥
 
 both_pages : (m : Machine) (n key : ℕ) (x : Option ℕ) → AreTakes (takes_both m n key x)
 both_pages m n key None = tt
@@ -53,27 +56,33 @@ some_of zero ps all = tt
 some_of (suc count) [] all = tt
 some_of (suc count) (Take x n ∷ ps) all = some_of count ps all
 some_of (suc count) (Start n ∷ ps) all = absurd all
+some_of (suc count) (Drop x ∷ ps) all = absurd all
 some_of (suc count) (Begin t ∷ ps) all = absurd all
 some_of (suc count) (Use n map place g ∷ ps) all = absurd all
+some_of (suc count) (FreePlace n map place ∷ ps) all = absurd all
 some_of (suc count) (Lock key t mode ∷ ps) all = absurd all
 some_of (suc count) (Change t w ∷ ps) all = absurd all
 some_of (suc count) (Back t ∷ ps) all = absurd all
 some_of (suc count) (Seal t ∷ ps) all = absurd all
 some_of (suc count) (Unlock t ∷ ps) all = absurd all
+some_of (suc count) (Sure n ∷ ps) all = absurd all
 
 -- ---- what they change
 
-holds_only : (ps : List Part) (m : Machine) → AreTakes ps → (hold : ℕ → Option ℕ) × (dos ps m ≡ record m { hold = hold })
-holds_only [] m all = (m.hold, refl)
-holds_only (Take x n ∷ ps) m all = holds_only ps (record m { hold = put x (Some n) m.hold }) all
+holds_only : (ps : List Part) (m : Machine) → AreTakes ps → (hold : ℕ → Option ℕ) × (loose : ℕ → List LooseChange) × (dos ps m ≡ record m { hold = hold; loose = loose })
+holds_only [] m all = (m.hold, m.loose, refl)
+holds_only (Take x n ∷ ps) m all = holds_only ps (record m { hold = put x (Some n) m.hold; loose = loose_after_take x n m }) all
 holds_only (Start n ∷ ps) m all = absurd all
+holds_only (Drop x ∷ ps) m all = absurd all
 holds_only (Begin t ∷ ps) m all = absurd all
 holds_only (Use n map place g ∷ ps) m all = absurd all
+holds_only (FreePlace n map place ∷ ps) m all = absurd all
 holds_only (Lock key t mode ∷ ps) m all = absurd all
 holds_only (Change t w ∷ ps) m all = absurd all
 holds_only (Back t ∷ ps) m all = absurd all
 holds_only (Seal t ∷ ps) m all = absurd all
 holds_only (Unlock t ∷ ps) m all = absurd all
+holds_only (Sure n ∷ ps) m all = absurd all
 
-pub only_holds : (m : Machine) (c : Command) (count : ℕ) → (hold : ℕ → Option ℕ) × (dos (take count (takes m c)) m ≡ record m { hold = hold })
+pub only_holds : (m : Machine) (c : Command) (count : ℕ) → (hold : ℕ → Option ℕ) × (loose : ℕ → List LooseChange) × (dos (take count (takes m c)) m ≡ record m { hold = hold; loose = loose })
 only_holds m c count = holds_only (take count (takes m c)) m (some_of count (takes m c) (are_takes m c))

@@ -15,7 +15,7 @@ use Rattle.script_text.specs.declared.command.Command.{Command}
 use Rattle.script_text.specs.declared.command.Command.TheVariants as asks
 use Rattle.script_text.specs.declared.reply.Reply.{Reply}
 use Rattle.script_text.specs.declared.reply.Reply.TheVariants as says
-use Rattle.record_machine.specs.Machine.{Deed, Machine, NodeMode, Write, Idle, Up, Down, Redone, free_place, home, is_busy, new_home, owed, room, seen, used, writes_of}
+use Rattle.record_machine.specs.Machine.{Deed, Machine, NodeMode, Write, Idle, Up, Down, Redone, free_place, home, is_busy, is_idle, is_up, new_home, owed, room, seen, used, writes_of}
 use Rattle.record_machine.specs.Parts.{Part, Start, Take, Begin, Use, Lock, Change, Back, Seal, Unlock, dos}
 
 -- ---- refusals
@@ -30,18 +30,6 @@ abbrev pub first_of : List (Option Reply) → Option Reply
 first_of [] = None
 first_of (None ∷ more) = first_of more
 first_of (Some why ∷ more) = Some why
-
-abbrev pub is_idle : NodeMode → Bool
-is_idle Idle = true
-is_idle Up = false
-is_idle Down = false
-is_idle Redone = false
-
-abbrev pub is_up : NodeMode → Bool
-is_up Idle = false
-is_up Up = true
-is_up Down = false
-is_up Redone = false
 
 -- the store has no such node, or it isn't idle, or isn't up
 abbrev pub no_node : Machine → NodeId → Option Reply

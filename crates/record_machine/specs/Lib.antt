@@ -1,6 +1,11 @@
 pub mod Machine
 pub mod Parts
+pub mod Stops
+pub mod Led
 pub mod Commands
 pub mod Rows
+pub mod Steps
 pub mod Left
 pub mod Meaning
+pub mod Recoverable
+pub mod RecoverableParts

@@ -1,5 +1,5 @@
 -- The record machine: what a store means, as plain data.
-use Rattle.std.specs.Prelude.{◌==◌, ◌-◌, ◌*◌, ◌^◌, ◌&&◌, ℕ, Bool, false, not, List, [], ◌∷◌, Option, Some, None, is_none, is_some, option_map, filter, fold, length, min, replicate, if◌then◌else◌}
+use Rattle.std.specs.Prelude.{◌==◌, ◌-◌, ◌*◌, ◌^◌, ◌&&◌, ℕ, Bool, true, false, not, List, [], ◌∷◌, Option, Some, None, is_none, is_some, option_map, filter, fold, length, min, replicate, if◌then◌else◌}
 use Rattle.std.specs.List.{count_by, list_any, position, range_with_len, sum_by}
 use Rattle.std.specs.FinMap as finite
 use Rattle.sd_base.specs.declared.names.TxnId.{TxnId}
@@ -18,6 +18,31 @@ pub data NodeMode : Type 0 where
   Down : NodeMode
   Redone : NodeMode
 
+abbrev pub is_idle : NodeMode → Bool
+is_idle Idle = true
+is_idle Up = false
+is_idle Down = false
+is_idle Redone = false
+
+abbrev pub is_up : NodeMode → Bool
+is_up Idle = false
+is_up Up = true
+is_up Down = false
+is_up Redone = false
+
+abbrev pub is_down : NodeMode → Bool
+is_down Idle = false
+is_down Up = false
+is_down Down = true
+is_down Redone = false
+
+-- the node has stopped, and isn't recovered yet
+abbrev pub awaits_recovery : NodeMode → Bool
+awaits_recovery Idle = false
+awaits_recovery Up = false
+awaits_recovery Down = true
+awaits_recovery Redone = true
+
 -- a write: of which key, in which page its record stands, and the new value, or that the record is absent
 pub record Write : Type 0 where
   pub key : ℕ
@@ -29,6 +54,24 @@ pub record Deed : Type 0 where
   pub number : ℕ
   pub seat : ℕ
   pub write : Option Write
+
+-- the entries of a map page, and the identifier of a page, as they were
+pub record EntriesBefore : Type 0 where
+  pub map : ℕ
+  pub entries : List MapEntry
+
+pub record IdentBefore : Type 0 where
+  pub page : ℕ
+  pub ident : ℕ
+
+-- A change by a record of a node's log, which a stop of the node may still take away: what it changed, as it was before. That is
+-- the number of the log's next record, what the open transactions of the node had done, the identifiers of the pages that it
+-- changed, and the entries of the map page, if it changed one.
+pub record LooseChange : Type 0 where
+  pub number : ℕ
+  pub pending : List Deed
+  pub idents : List IdentBefore
+  pub entries : Option EntriesBefore
 
 -- The state of an open store.
 pub record Machine : Type 0 where
@@ -51,6 +94,12 @@ pub record Machine : Type 0 where
   -- of each node's log, its first block and the number of its next record
   pub start : ℕ → ℕ
   pub tail : ℕ → ℕ
+  -- the first block that the vault has kept of it
+  pub first : ℕ → ℕ
+  -- the changes of each node that a stop of it may still take away, in their order
+  pub loose : ℕ → List LooseChange
+  -- the pages that are lost, and not rebuilt since
+  pub gone : ℕ → Bool
 
 -- the same function, but for one argument
 abbrev pub put : {A : Type 0} → ℕ → A → (ℕ → A) → ℕ → A
@@ -70,6 +119,9 @@ formatted s = record {
   hold = λ x. None;
   start = λ n. 0;
   tail = λ n. 0;
+  first = λ n. 0;
+  loose = λ n. [];
+  gone = λ x. false;
 }
 
 -- ---- pages and groups

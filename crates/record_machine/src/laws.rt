@@ -1,6 +1,8 @@
 //! The laws about the record machine, by which the commands of the store are proved.
 
-ghost use Rattle.std.specs.Prelude.{true, ◌≡◌, ◌≢◌, ◌+◌, ◌*◌, ◌^◌, ◌≤◌, ◌<◌, ◌++◌, ◌∷◌, [], ℕ, false, List, Option, Some, None, IfSome, IsSome, IsTrue, length, replicate, take};
+ghost use Rattle.std.specs.Prelude.{true, drop, ◌≡◌, ◌≢◌, ◌+◌, ◌*◌, ◌^◌, ◌≤◌, ◌<◌, ◌++◌, ◌∷◌, [], ℕ, false, List, Option, Some, None, IfSome, IsSome, IsTrue, length, replicate, take};
+ghost use Rattle.std.specs.FinMap.{empty};
+ghost use Rattle.std.specs.List.{list_any};
 ghost use Rattle.sd_base.specs.Shape.{IsShape};
 ghost use Rattle.sd_base.specs.declared.names.Key.{Key};
 ghost use Rattle.sd_base.specs.declared.names.TxnId.{TxnId};
@@ -18,10 +20,12 @@ ghost use Rattle.record_locks.specs.Answer.{lock_answer, may_take};
 ghost use Rattle.record_locks.specs.Held.{least_where, mode_of};
 ghost use Rattle.script_text.specs.declared.command.Command.{Command};
 ghost use Rattle.record_machine.specs.Commands.{takes};
-ghost use Rattle.record_machine.specs.Machine.{Deed, Machine, Write, deeds_of, formatted, free_place, home, newest_of, owed, seen, writes_of};
+ghost use Rattle.record_machine.specs.Machine.{Deed, Down, LooseChange, Machine, Up, Write, deeds_of, formatted, free_place, home, newest_of, owed, seen, writes_of};
 ghost use Rattle.record_machine.specs.Parts as part;
-ghost use Rattle.record_machine.specs.Parts.{dos, one};
+ghost use Rattle.record_machine.specs.Parts.{dos, is_of_page, one};
 ghost use Rattle.record_machine.specs.Rows.{AreRows, HasNone, IsNext, Row};
+ghost use Rattle.record_machine.specs.Steps.{held, refused_for};
+ghost use Rattle.record_machine.specs.Stops.{any_up, stop};
 ghost use Rattle.record_machine.specs.Meaning.{IsChangedAt, IsUsed, Means, Plain, Tells, born, first_record, has_written, logged, with_map, with_page};
 
 /// A store means the machine's first state when it is formatted.
@@ -41,7 +45,7 @@ pub fn law_of_present_records()
 /// A command that is refused has taken some of its pages and has done no more: records, locks and open
 /// transactions are as they were.
 pub fn law_of_refusals()
-    ensures { (m : Machine) (c : Command) (count : ℕ) → (hold : ℕ → Option ℕ) × (dos (take count (takes m c)) m ≡ record m { hold = hold }) }
+    ensures { (m : Machine) (c : Command) (count : ℕ) → (hold : ℕ → Option ℕ) × (loose : ℕ → List LooseChange) × (dos (take count (takes m c)) m ≡ record m { hold = hold; loose = loose }) }
 {}
 
 /// The rows of a dump, one after the other: none at first, then one more where the next record is found,
@@ -69,6 +73,8 @@ pub fn law_of_parts()
         → Means p m → Means (logged t.node.0 rec (with_page w.page v p)) (one (part.Back t) m) }
     ensures seal { (p : Plain) (m : Machine) (t : TxnId) (rec : LogRecord) → Means p m → Means (logged t.node.0 rec p) (one (part.Seal t) m) }
     ensures sealed { (m : Machine) (t : TxnId) (key : ℕ) → has_written (one (part.Seal t) m) t key ≡ false }
+    ensures drop { (p : Plain) (m : Machine) (x : ℕ) → Means p m → Means p (one (part.Drop x) m) }
+    ensures sure { (p : Plain) (m : Machine) (n : ℕ) → Means p m → Means p (one (part.Sure n) m) }
     ensures unlock { (p : Plain) (m : Machine) (t : TxnId) → ((key : ℕ) → has_written m t key ≡ false) → Means p m → Means p (one (part.Unlock t) m) }
 {}
 
@@ -86,4 +92,44 @@ pub fn law_of_aborts()
     ensures no_more { (m : Machine) (t : TxnId) (key : ℕ) → newest_of m t ≡ None → has_written m t key ≡ false }
     ensures all_back { (m : Machine) (t : TxnId) (key : ℕ) → has_written (dos (replicate (length (writes_of m t)) (part.Back t)) m) t key ≡ false }
     ensures undone { (m : Machine) (t : TxnId) (key : ℕ) → (one (part.Seal t) (dos (replicate (length (writes_of m t)) (part.Back t)) m)).records key ≡ m.records key }
+{}
+
+/// What a stop of a node changes, and what it keeps. It changes no committed record. It touches no other
+/// node, no lock of another node and no page that its loose changes haven't changed. While another node is
+/// up, all holds stay, and of the node's own locks those to write. Where none is, the tables are lost.
+pub fn law_of_stops()
+    ensures records { (m : Machine) (h kept : ℕ) → (stop h kept m).records ≡ m.records }
+    ensures store { (m : Machine) (h kept : ℕ) → ((stop h kept m).shape ≡ m.shape) × ((stop h kept m).start ≡ m.start) × ((stop h kept m).first ≡ m.first) × ((stop h kept m).gone ≡ m.gone) }
+    ensures down { (m : Machine) (h kept : ℕ) → ((stop h kept m).mode h ≡ Down) × ((stop h kept m).loose h ≡ []) }
+    ensures others { (m : Machine) (h kept n : ℕ) → n ≢ h → ((stop h kept m).mode n ≡ m.mode n) × ((stop h kept m).pending n ≡ m.pending n) × ((stop h kept m).tail n ≡ m.tail n) × ((stop h kept m).loose n ≡ m.loose n) }
+    // Its log ends before the first change that is taken back, and so it is with its open transactions.
+    ensures back { (m : Machine) (h kept : ℕ) (c : LooseChange) (cs : List LooseChange) → drop kept (m.loose h) ≡ c ∷ cs → ((stop h kept m).tail h ≡ c.number) × ((stop h kept m).pending h ≡ c.pending) }
+    // A page that none of these changes has changed is as it was.
+    ensures pages { (m : Machine) (h kept x : ℕ) → list_any (is_of_page x) (drop kept (m.loose h)) ≡ false → (stop h kept m).ident x ≡ m.ident x }
+    // Where all is sure, nothing is taken back.
+    ensures sure { (m : Machine) (h kept : ℕ) → m.loose h ≡ [] → ((stop h kept m).tail ≡ m.tail) × ((stop h kept m).pending ≡ m.pending) × ((stop h kept m).ident ≡ m.ident) × ((stop h kept m).entries ≡ m.entries) }
+    ensures holds { (m : Machine) (h kept x : ℕ) → any_up (stop h kept m) ≡ true → (stop h kept m).hold x ≡ m.hold x }
+    ensures write_locks { (m : Machine) (h kept : ℕ) (key : Key) (t : TxnId) → any_up (stop h kept m) ≡ true → mode_of m.locks key t ≡ Some locks.Write → mode_of (stop h kept m).locks key t ≡ Some locks.Write }
+    ensures read_locks { (m : Machine) (h kept : ℕ) (key : Key) (t : TxnId) → t.node.0 ≡ h → mode_of m.locks key t ≡ Some locks.Read → mode_of (stop h kept m).locks key t ≡ None }
+    ensures other_locks { (m : Machine) (h kept : ℕ) (key : Key) (t : TxnId) → any_up (stop h kept m) ≡ true → t.node.0 ≢ h → mode_of (stop h kept m).locks key t ≡ mode_of m.locks key t }
+    ensures no_new_locks { (m : Machine) (h kept : ℕ) (key : Key) (t : TxnId) (mode : Mode) → mode_of (stop h kept m).locks key t ≡ Some mode → mode_of m.locks key t ≡ Some mode }
+    ensures flag { (m : Machine) (h kept : ℕ) → any_up (stop h kept m) ≡ true → (stop h kept m).reopening ≡ m.reopening }
+    ensures tables { (m : Machine) (h kept : ℕ) → any_up (stop h kept m) ≡ false → ((stop h kept m).locks ≡ empty) × ((x : ℕ) → (stop h kept m).hold x ≡ None) × ((stop h kept m).reopening ≡ true) }
+{}
+
+/// What a stop can't take away: all that was made sure, what a transaction had done when one of its node
+/// was sealed, and all changes of a page that another node has taken since.
+pub fn law_of_sure_changes()
+    ensures made { (m : Machine) (n : ℕ) → (one (part.Sure n) m).loose n ≡ [] }
+    ensures sealed { (m : Machine) (t : TxnId) → (one (part.Seal t) m).loose t.node.0 ≡ [] }
+    ensures started { (m : Machine) (n : ℕ) → (one (part.Start n) m).loose n ≡ [] }
+    ensures taken { (m : Machine) (x n h : ℕ) → m.hold x ≡ Some h → h ≢ n → m.mode h ≡ Up → list_any (is_of_page x) ((one (part.Take x n) m).loose h) ≡ false }
+    // Whatever a node has still to lose then, it had before.
+    ensures left { (m : Machine) (x n h : ℕ) → (count : ℕ) × ((one (part.Take x n) m).loose h ≡ drop count (m.loose h)) }
+{}
+
+/// Where a command isn't refused, no page that it takes is held by a node that is down.
+pub fn law_of_holds()
+    ensures takes { (m : Machine) (c : Command) → refused_for m c ≡ None → held m (takes m c) ≡ None }
+    ensures apart { (m : Machine) (ps qs : List part.Part) (x n h : ℕ) → held m (ps ++ part.Take x n ∷ qs) ≡ None → m.hold x ≡ Some h → m.mode h ≢ Down }
 {}

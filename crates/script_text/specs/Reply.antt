@@ -3,7 +3,7 @@ use Rattle.std.specs.Prelude.{ℕ, List, [], ◌∷◌, ◌++◌, codes, decimal
 use Rattle.script_text.specs.Spelling.{spelled}
 use Rattle.script_text.specs.Words.{spaced, txn_word}
 use Rattle.script_text.specs.declared.reply.Reply.{Reply}
-use Rattle.script_text.specs.declared.reply.Reply.TheVariants.{Fine, Found, Absent, Flushed, Row, NoMore, EndDump, StatUp, StatIdle, StatDown, Bad, Closed, Formatted, SmallDisk, SmallVault, NoMem, NoNode, NotUp, NotIdle, Busy, NotTxn, Locked, LocksFull, LostPage, Limit, NoSpace, TooLong, LogFull, Stopped, Fault, DamagedDisk}
+use Rattle.script_text.specs.declared.reply.Reply.TheVariants.{Fine, Found, Absent, Flushed, Row, NoMore, EndDump, StatUp, StatIdle, StatDown, Bad, Closed, Formatted, SmallDisk, SmallVault, NoMem, NoNode, NotUp, NotIdle, Busy, Reopening, NotTxn, Locked, LocksFull, Held, LostPage, Limit, NoSpace, TooLong, LogFull, Stopped, Fault, DamagedDisk}
 
 -- the words of a reply. A value stands last, as its spelling, which may be empty and may have spaces. `NoMore` isn't printed
 abbrev pub reply_words : Reply → List (List ℕ)
@@ -27,9 +27,11 @@ reply_words (NoNode node) = codes "nonode" ∷ decimal node.0 ∷ []
 reply_words (NotUp node) = codes "notup" ∷ decimal node.0 ∷ []
 reply_words (NotIdle node) = codes "notidle" ∷ decimal node.0 ∷ []
 reply_words (Busy txn) = codes "busy" ∷ txn_word txn ∷ []
+reply_words (Reopening node) = codes "reopening" ∷ decimal node.0 ∷ []
 reply_words (NotTxn txn) = codes "notxn" ∷ txn_word txn ∷ []
 reply_words (Locked txn) = codes "locked" ∷ txn_word txn ∷ []
 reply_words LocksFull = codes "locksfull" ∷ []
+reply_words (Held page node) = codes "held" ∷ decimal page.0 ∷ decimal node.0 ∷ []
 reply_words (LostPage page) = codes "lost" ∷ decimal page.0 ∷ []
 reply_words (Limit page) = codes "limit" ∷ decimal page.0 ∷ []
 reply_words (NoSpace page) = codes "nospace" ∷ decimal page.0 ∷ []

@@ -46,12 +46,16 @@ pub enum Reply {
     NotIdle(NodeId),
     /// The transaction is open.
     Busy(TxnId),
+    /// The tables of locks and pages were lost, and this is the first node that isn't recovered yet.
+    Reopening(NodeId),
     /// The transaction isn't open.
     NotTxn(TxnId),
     /// The transaction has a lock that is in the way.
     Locked(TxnId),
     /// The table of locks is full.
     LocksFull,
+    /// The page is held by this node, which is down.
+    Held(PageNo, NodeId),
     /// The page is lost.
     LostPage(PageNo),
     /// The page's identifier is at its limit.

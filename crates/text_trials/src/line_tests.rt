@@ -208,7 +208,7 @@ fn lines_and_values(rt: HostRuntime) -> Result<(), Fail> {
 }
 
 // Each reply without a value.
-const REPLIES: [(Reply, &str); 36] = [
+const REPLIES: [(Reply, &str); 39] = [
     (Reply::Fine, "ok\n"),
     (Reply::Absent, "absent\n"),
     (Reply::Flushed(0), "flushed 0\n"),
@@ -243,9 +243,15 @@ const REPLIES: [(Reply, &str); 36] = [
     (Reply::NotUp(NodeId(1)), "notup 1\n"),
     (Reply::NotIdle(NodeId(16)), "notidle 16\n"),
     (Reply::Busy(LAST), "busy 16.7\n"),
+    (Reply::Reopening(NodeId(16)), "reopening 16\n"),
     (Reply::NotTxn(LAST), "notxn 16.7\n"),
     (Reply::Locked(FIRST), "locked 1.0\n"),
     (Reply::LocksFull, "locksfull\n"),
+    (Reply::Held(PageNo(0), NodeId(1)), "held 0 1\n"),
+    (
+        Reply::Held(PageNo(4294967295), NodeId(16)),
+        "held 4294967295 16\n",
+    ),
     (Reply::LostPage(PageNo(1)), "lost 1\n"),
     (Reply::LostPage(PageNo(4294967295)), "lost 4294967295\n"),
     (Reply::Limit(PageNo(4294967295)), "limit 4294967295\n"),
