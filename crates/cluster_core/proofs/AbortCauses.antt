@@ -1,14 +1,17 @@
 -- Why an abort isn't done.
-use Rattle.std.specs.Prelude.{◌≡◌, ◌⊎◌, ◌<◌, ◌≤◌, ℕ, refl}
+use Rattle.std.specs.Prelude.{◌≡◌, ◌⊎◌, ◌+◌, ◌<◌, ◌≤◌, ℕ, false, nat_le, refl}
 use Rattle.std.proofs.Common.{arith, inl, inr, subst, sym}
+use Rattle.std.proofs.lemmas.Bool.Decides.{nat_tests}
 use Rattle.sd_base.specs.Disk.{BlockState}
-use Rattle.sd_base.specs.Shape.{page_count}
+use Rattle.sd_base.specs.Shape.{first_page, page_count}
+use Rattle.sd_base.specs.declared.fault.DevFault.{DevFault}
+use Rattle.sd_base.specs.declared.fault.DevFault.TheVariants.{Damaged, Failed, Lost, Stopped}
 use Rattle.sd_base.specs.declared.names.PageNo.{PageNo}
 use Rattle.sd_base.specs.declared.shape.Shape.{Shape}
 use Rattle.sd_base.specs.Places.{map_of_data}
 use Rattle.sd_base.proofs.PlaceLaws.{map_of_data-below}
 use Rattle.private_log.specs.Content.{region_of}
-use Rattle.private_log.specs.Reading.{contents}
+use Rattle.private_log.specs.Reading.{IsLogFault, contents}
 use Rattle.state_ids.specs.Blocks.{page_place}
 use Rattle.script_text.specs.declared.reply.Reply.{Reply}
 use Rattle.script_text.specs.declared.reply.Reply.TheVariants as says
@@ -16,6 +19,7 @@ use Rattle.cluster_core.specs.Aborts.{HasNoRoomFor, IsToldOfAbort}
 use Rattle.cluster_core.specs.Causes.{IsAbortFault, IsFaultOfPage, IsToldOfPages}
 use Rattle.cluster_core.specs.Cluster.{ClusterState}
 use Rattle.cluster_core.specs.LogReply.{IsLogReply}
+use Rattle.cluster_core.specs.Ports.{reply_to}
 
 -- a page couldn't be taken
 page_fault : (s : Shape) (x : PageNo) (why : Reply) → x.0 < page_count s → IsFaultOfPage s x why → IsAbortFault s why
@@ -54,3 +58,13 @@ room_fault s x why low is = subst (IsAbortFault s) (sym is) (inr (x, low, refl))
 pub room_told : (c d : ClusterState) (a b : ℕ → BlockState) (seat : ℕ) (x : PageNo) (why : Reply) → why ≡ says.DamagedDisk (record { 0 = page_place c.shape x }) → HasNoRoomFor c a seat x → d ≡ c → b ≡ a → IsToldOfAbort d b seat why
 room_told c d a b seat x why is none same blocks =
     subst (IsToldOfAbort d b seat) (sym is) (subst (λ k. IsToldOfAbort k b seat (says.DamagedDisk (record { 0 = page_place c.shape x }))) (sym same) (subst (λ z. IsToldOfAbort c z seat (says.DamagedDisk (record { 0 = page_place c.shape x }))) (sym blocks) (inr (inr (x, refl, none)))))
+
+-- what a fault of the log is answered, in a store of one node
+pub log_says : (s : Shape) (port : ℕ) (f : DevFault) → s.nodes ≡ 1 → IsLogFault (region_of s 1) port f → IsLogReply (region_of s 1) (reply_to (first_page s) f)
+log_says s port (Stopped n) one is = tt
+log_says s port (Failed n) one is = tt
+log_says s port (Lost at) one is =
+    let pages : first_page s ≡ s.ring + 2 = rw one (omega arith) in
+    let below : nat_le (first_page s) at.0 ≡ false = grind (arith, nat_tests, is, pages) in
+    rw below is
+log_says s port (Damaged at) one is = is

@@ -32,21 +32,21 @@ use Rattle.cluster_core.proofs.InMemory.{busy_shown, owed_shown, room_shown}
 use Rattle.cluster_core.proofs.ShownLogged.{tail_shown}
 
 -- what the machine says that the node is
-up_mode : (c : ClusterState) (b : ℕ → BlockState) (p : Plain) (m : Machine) → ShowsStore c b p m → wants.is_up (m.mode 1) ≡ is_up c.node
+up_mode : (c : ClusterState) (b : ℕ → BlockState) (p : Plain) (m : Machine) → ShowsStore c b p m → machine.is_up (m.mode 1) ≡ is_up c.node
 up_mode c b p m shown = by c.node shown.node
   where
-    by : (node : Node) → ShowsNode c.shape c.pool node b p m → wants.is_up (m.mode 1) ≡ is_up node
-    by Idle is = ap wants.is_up is.0
-    by (Up d seats) is = ap wants.is_up is.0
-    by Down is = ap wants.is_up is
+    by : (node : Node) → ShowsNode c.shape c.pool node b p m → machine.is_up (m.mode 1) ≡ is_up node
+    by Idle is = ap machine.is_up is.0
+    by (Up d seats) is = ap machine.is_up is.0
+    by Down is = ap machine.is_up is
 
-idle_mode : (c : ClusterState) (b : ℕ → BlockState) (p : Plain) (m : Machine) → ShowsStore c b p m → wants.is_idle (m.mode 1) ≡ is_idle c.node
+idle_mode : (c : ClusterState) (b : ℕ → BlockState) (p : Plain) (m : Machine) → ShowsStore c b p m → machine.is_idle (m.mode 1) ≡ is_idle c.node
 idle_mode c b p m shown = by c.node shown.node
   where
-    by : (node : Node) → ShowsNode c.shape c.pool node b p m → wants.is_idle (m.mode 1) ≡ is_idle node
-    by Idle is = ap wants.is_idle is.0
-    by (Up d seats) is = ap wants.is_idle is.0
-    by Down is = ap wants.is_idle is
+    by : (node : Node) → ShowsNode c.shape c.pool node b p m → machine.is_idle (m.mode 1) ≡ is_idle node
+    by Idle is = ap machine.is_idle is.0
+    by (Up d seats) is = ap machine.is_idle is.0
+    by Down is = ap machine.is_idle is
 
 -- a store of one node has a node, or it is the first
 pub one_or_none : (n : NodeId) (nodes : ℕ) → IsNode n → nodes ≡ 1 → (n.0 ≡ 1) ⊎ (nat_lt nodes n.0 ≡ true)
@@ -82,7 +82,7 @@ module _ (c : ClusterState) (b : ℕ → BlockState) (p : Plain) (m : Machine) (
     | inl one ↦
         let there : nat_lt c.shape.nodes n.0 ≡ false = (let k = is.one in grind (arith, nat_tests, k, one)) in
         let here : nat_lt m.shape.nodes n.0 ≡ false = ap (λ k. nat_lt k n.0) nodes ∙ there in
-        let mode : wants.is_up (m.mode n.0) ≡ is_up c.node = ap (λ k. wants.is_up (m.mode k)) one ∙ up_mode c b p m shown in
+        let mode : machine.is_up (m.mode n.0) ≡ is_up c.node = ap (λ k. machine.is_up (m.mode k)) one ∙ up_mode c b p m shown in
         ap (λ t. first_of (where_so t (says.NoNode n) ∷ wants.not_up m n ∷ rest)) here
         ∙ ap (λ t. first_of (where_so (not t) (says.NotUp n) ∷ rest)) mode
         ∙ by (is_up c.node) refl (same one)
@@ -114,7 +114,7 @@ module _ (c : ClusterState) (b : ℕ → BlockState) (p : Plain) (m : Machine) (
   known_start n range = elim (one_or_none n c.shape.nodes range is.one) [
     | inl one ↦
         ap (λ k. first_of (where_so (nat_lt k n.0) (says.NoNode n) ∷ wants.not_idle m n ∷ [])) nodes
-        ∙ ap (λ k. first_of (known.no_node c n ∷ where_so (not k) (says.NotIdle n) ∷ [])) (ap (λ k. wants.is_idle (m.mode k)) one ∙ idle_mode c b p m shown)
+        ∙ ap (λ k. first_of (known.no_node c n ∷ where_so (not k) (says.NotIdle n) ∷ [])) (ap (λ k. machine.is_idle (m.mode k)) one ∙ idle_mode c b p m shown)
     | inr none ↦
         ap (λ k. first_of (where_so (nat_lt k n.0) (says.NoNode n) ∷ wants.not_idle m n ∷ [])) nodes
         ∙ ap (λ t. first_of (where_so t (says.NoNode n) ∷ wants.not_idle m n ∷ [])) none

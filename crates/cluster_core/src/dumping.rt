@@ -22,7 +22,7 @@ ghost use Rattle.cluster_core.specs.Shows.{IsShown};
 
 use crate::cluster::Cluster;
 use script_text::{Command, Reply};
-use sd_base::{Disk, GroupNo, KEYS_PER_GROUP, Key, MAX_GROUP, NodeId, PageNo, Value};
+use sd_base::{Arm, Disk, GroupNo, KEYS_PER_GROUP, Key, MAX_GROUP, NodeId, PageNo, Value};
 
 /// The groups end here: that of the greatest key is the last one.
 const GROUPS: u32 = MAX_GROUP + 1;
@@ -278,7 +278,7 @@ impl Cluster {
     ///
     /// What is refused for what is in memory is refused before anything is done. Where a device call
     /// stops the node, it goes down.
-    pub fn next_record<D: Disk, V: Disk>(
+    pub fn next_record<D: Arm, V: Arm>(
         &mut self,
         disk: &mut D,
         vault: &mut V,

@@ -20,7 +20,7 @@ ghost use Rattle.cluster_core.specs.Shows.{IsShown};
 
 use crate::cluster::Cluster;
 use script_text::{Command, Reply};
-use sd_base::{Disk, Key, NodeId, TxnId, Value};
+use sd_base::{Arm, Key, NodeId, TxnId, Value};
 use txn_core::{Change, Ending};
 
 /// The reply to a command of which nothing is asked but that it is done.
@@ -70,12 +70,7 @@ impl Cluster {
     ///
     /// What is refused for what is in memory is refused before anything is done. Where a device call
     /// stops the node, it goes down, and the command ends at once.
-    pub fn exec<D: Disk, V: Disk>(
-        &mut self,
-        disk: &mut D,
-        vault: &mut V,
-        command: &Command,
-    ) -> Reply
+    pub fn exec<D: Arm, V: Arm>(&mut self, disk: &mut D, vault: &mut V, command: &Command) -> Reply
         requires range { InRange command.now }
         requires one { dumped_by command.now ≡ None }
         requires served { IsServed self.old (D.state disk.old) (V.state vault.old) }

@@ -21,7 +21,7 @@ use frame_pool::Pool;
 use page_owner::Owners;
 use record_locks::Locks;
 use script_text::Reply;
-use sd_base::{Disk, Shape};
+use sd_base::{Arm, Disk, Shape};
 use std::alloc::{AllocError, Global};
 use store_format::{FIRST, law_of_formatted_disks, may_format, stop_all, write_store};
 
@@ -82,7 +82,7 @@ impl Cluster {
     /// It stops all ports first. It refuses where a store stands on the disk, where a device is too small,
     /// the disk first, and for want of memory, in this order and before it writes. After each answer no
     /// port is live.
-    pub fn format<D: Disk, V: Disk>(
+    pub fn format<D: Arm, V: Arm>(
         alloc: Global,
         disk: &mut D,
         vault: &mut V,
@@ -123,7 +123,7 @@ impl Cluster {
     }
 
     /// Ends a store that is open: all ports of both devices stop.
-    pub fn close<D: Disk, V: Disk>(self, disk: &mut D, vault: &mut V)
+    pub fn close<D: Arm, V: Arm>(self, disk: &mut D, vault: &mut V)
         ensures disk_idle { IsIdle (D.state disk.new) }
         ensures vault_idle { IsIdle (V.state vault.new) }
         ensures disk { TakesOver (D.state disk.old) (D.state disk.new) }

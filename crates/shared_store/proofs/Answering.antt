@@ -9,7 +9,7 @@ use Rattle.script_text.specs.declared.command.Command.TheVariants as asks
 use Rattle.script_text.specs.declared.reply.Reply.{Reply}
 use Rattle.script_text.specs.declared.reply.Reply.TheVariants as says
 use Rattle.record_machine.specs.Commands.{Step, first_of, refusal, where_so}
-use Rattle.record_machine.specs.Commands as wants
+use Rattle.record_machine.specs.Machine as machine
 use Rattle.record_machine.specs.Machine.{Machine}
 use Rattle.record_machine.specs.Rows.{RowStep, dumped_by}
 use Rattle.cluster_core.specs.Cluster.{ClusterState}
@@ -108,7 +108,7 @@ known_no_row : (c : ClusterState) (n : NodeId) (why : Reply) → known c (asks.D
 known_no_row c n why is = subst (λ o. IfSome o IsNoRow) is (no_row (nat_lt c.shape.nodes n.0) (not (is_up c.node)) _ n)
 
 pub refusal_no_row : (m : Machine) (n : NodeId) (why : Reply) → refusal m (asks.Dump n) ≡ Some why → IsNoRow why
-refusal_no_row m n why is = subst (λ o. IfSome o IsNoRow) is (no_row (nat_lt m.shape.nodes n.0) (not (wants.is_up (m.mode n.0))) _ n)
+refusal_no_row m n why is = subst (λ o. IfSome o IsNoRow) is (no_row (nat_lt m.shape.nodes n.0) (not (machine.is_up (m.mode n.0))) _ n)
 
 -- an open cluster was asked for the next record of a dump
 pub open_rising : (c next : ClusterState) (n : NodeId) (first : ℕ) (reply : Reply) → ((why : Reply) → known c (asks.Dump n) ≡ Some why → reply ≡ why) → (known c (asks.Dump n) ≡ None → IsRowAnswer next first reply) → IsRowFrom first reply

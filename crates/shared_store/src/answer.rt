@@ -12,7 +12,7 @@ ghost use Rattle.shared_store.specs.StoreState.{StoreState};
 use crate::output::say;
 use crate::store::Store;
 use script_text::{Command, Reply};
-use sd_base::{Disk, NodeId, Sink};
+use sd_base::{Arm, NodeId, Sink};
 use std::alloc::Global;
 
 /// The last reply to a dump with so many rows, where this one was given to the question for a further
@@ -28,7 +28,7 @@ fn end_of_dump(reply: Reply, count: u64) -> Reply
 
 impl Store {
     /// Answers a command. False where the sink failed; then it has taken a part of the replies.
-    pub(crate) fn answer<K: Sink, D: Disk, V: Disk>(
+    pub(crate) fn answer<K: Sink, D: Arm, V: Arm>(
         &mut self,
         alloc: Global,
         sink: &mut K,
@@ -59,7 +59,7 @@ impl Store {
     }
 
     /// Answers a command that gets one reply.
-    fn answer_once<K: Sink, D: Disk, V: Disk>(
+    fn answer_once<K: Sink, D: Arm, V: Arm>(
         &mut self,
         alloc: Global,
         sink: &mut K,
@@ -89,7 +89,7 @@ impl Store {
     }
 
     /// Answers a dump. Each row is written and flushed before the next record is asked for.
-    fn dump<K: Sink, D: Disk, V: Disk>(
+    fn dump<K: Sink, D: Arm, V: Arm>(
         &mut self,
         sink: &mut K,
         disk: &mut D,

@@ -15,7 +15,7 @@ ghost use Rattle.shared_store.specs.Transcript.{Beginning};
 use crate::line::LineBuffer;
 use crate::session::Session;
 use crate::store::Store;
-use sd_base::{Disk, Sink, Source, Took};
+use sd_base::{Arm, Sink, Source, Took};
 use std::alloc::Global;
 
 /// How a run ended.
@@ -59,7 +59,7 @@ const PIECE: usize = 4096;
 ///
 /// The first word is the program's name; any further word is a usage fault. A store that is open at
 /// the end is closed.
-pub fn run<S: Source, K: Sink, D: Disk, V: Disk>(
+pub fn run<S: Source, K: Sink, D: Arm, V: Arm>(
     alloc: Global,
     words: &Vec<String>,
     source: &mut S,
@@ -92,7 +92,7 @@ pub fn run<S: Source, K: Sink, D: Disk, V: Disk>(
 }
 
 /// The script job: it begins with no store open, and closes the one that is open at its end.
-fn run_script<S: Source, K: Sink, D: Disk, V: Disk>(
+fn run_script<S: Source, K: Sink, D: Arm, V: Arm>(
     alloc: Global,
     source: &mut S,
     sink: &mut K,
@@ -124,7 +124,7 @@ fn run_script<S: Source, K: Sink, D: Disk, V: Disk>(
 }
 
 /// Reads the script to its end, and answers its lines.
-fn read_script<S: Source, K: Sink, D: Disk, V: Disk>(
+fn read_script<S: Source, K: Sink, D: Arm, V: Arm>(
     session: &mut Session,
     alloc: Global,
     source: &mut S,

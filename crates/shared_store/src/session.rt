@@ -11,7 +11,7 @@ ghost use Rattle.shared_store.specs.Transcript.{Beginning, Transcribes, Transcri
 
 use crate::line::LineBuffer;
 use crate::store::Store;
-use sd_base::{Disk, Sink};
+use sd_base::{Arm, Sink};
 use std::alloc::Global;
 
 /// A script that is being executed: the store, and the line that has begun.
@@ -23,7 +23,7 @@ pub(crate) struct Session {
 impl Session {
     /// Reads the next bytes of the script, and answers each line that they end. False where the
     /// sink failed; then no further line is executed.
-    pub(crate) fn feed<K: Sink, D: Disk, V: Disk>(
+    pub(crate) fn feed<K: Sink, D: Arm, V: Arm>(
         &mut self,
         alloc: Global,
         sink: &mut K,
@@ -58,7 +58,7 @@ impl Session {
     }
 
     /// Reads the next byte of the script.
-    fn take_byte<K: Sink, D: Disk, V: Disk>(
+    fn take_byte<K: Sink, D: Arm, V: Arm>(
         &mut self,
         alloc: Global,
         sink: &mut K,
@@ -94,7 +94,7 @@ impl Session {
 
     /// Answers the line that is held, whether a line feed or the end of the script stands behind it.
     /// Its replies are written and flushed before the next line is read.
-    pub(crate) fn answer_line<K: Sink, D: Disk, V: Disk>(
+    pub(crate) fn answer_line<K: Sink, D: Arm, V: Arm>(
         &mut self,
         alloc: Global,
         sink: &mut K,

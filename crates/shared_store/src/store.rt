@@ -13,7 +13,7 @@ ghost use Rattle.shared_store.specs.StoreState.{AnsweredOnce, Seal, StoreState, 
 
 use cluster_core::Cluster;
 use script_text::{Command, Reply};
-use sd_base::{Disk, Key, NodeId, Shape};
+use sd_base::{Arm, Key, NodeId, Shape};
 use std::alloc::Global;
 use std::mem;
 
@@ -30,7 +30,7 @@ pub(crate) enum Store {
 impl Store {
     /// Executes a command that gets one reply: `next_record` answers a dump. A `format` that is done
     /// opens the store.
-    pub(crate) fn exec<D: Disk, V: Disk>(
+    pub(crate) fn exec<D: Arm, V: Arm>(
         &mut self,
         alloc: Global,
         disk: &mut D,
@@ -61,7 +61,7 @@ impl Store {
 
     /// Answers a dump, one record at a time: the record with the least key behind this one, or the least
     /// of all.
-    pub(crate) fn next_record<D: Disk, V: Disk>(
+    pub(crate) fn next_record<D: Arm, V: Arm>(
         &mut self,
         disk: &mut D,
         vault: &mut V,
@@ -90,7 +90,7 @@ impl Store {
     }
 
     /// Executes a command while no store is open.
-    fn exec_closed<D: Disk, V: Disk>(
+    fn exec_closed<D: Arm, V: Arm>(
         &mut self,
         alloc: Global,
         disk: &mut D,
@@ -130,7 +130,7 @@ impl Store {
     }
 
     /// Writes an empty store of this shape, and opens it.
-    fn format<D: Disk, V: Disk>(
+    fn format<D: Arm, V: Arm>(
         &mut self,
         alloc: Global,
         disk: &mut D,
@@ -172,7 +172,7 @@ impl Store {
     }
 
     /// Ends the store that is open, if one is: all ports of both devices stop.
-    pub(crate) fn close<D: Disk, V: Disk>(self, disk: &mut D, vault: &mut V)
+    pub(crate) fn close<D: Arm, V: Arm>(self, disk: &mut D, vault: &mut V)
         ensures disk { GoesOn (D.state disk.old) (D.state disk.new) }
         ensures vault { GoesOn (V.state vault.old) (V.state vault.new) }
         ensures ports { (first : DiskState) → KeepsPorts self first (D.state disk.old) → OpensNoPort first (D.state disk.new) }

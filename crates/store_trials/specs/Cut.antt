@@ -1,7 +1,9 @@
 -- What a device means of which one call is stopped.
-use Rattle.std.specs.Prelude.{◌+◌, ◌-◌, ◌^◌, ℕ, List, min}
+use Rattle.std.specs.Prelude.{◌+◌, ◌-◌, ◌^◌, ℕ, List, min, slice_index}
 use Rattle.sd_base.specs.Disk.{DiskState}
-use Rattle.store_trials.specs.Faulty.{counts_at}
+
+abbrev pub counts_at : List ℕ → ℕ → ℕ
+counts_at counts n = slice_index counts n
 
 -- the stops of a port: those of the device below, and these
 abbrev pub all_cuts : DiskState → List ℕ → ℕ → ℕ

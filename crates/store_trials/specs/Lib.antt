@@ -1,4 +1,4 @@
 pub mod Cut
-pub mod Faulty
+pub mod Misread
 pub mod Client
 pub mod LogTrial

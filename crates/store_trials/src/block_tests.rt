@@ -1,7 +1,7 @@
 //! Scripts over devices of other sizes than the program's, with lost and damaged blocks, and with a store on them.
-use crate::trial::{expect, expect_over};
-use crate::{Faults, FaultyDisk};
-use disk_model::MemDisk;
+use crate::MisreadDisk;
+use crate::trial::{expect, unarmed};
+use disk_model::Fused;
 use page_image::write_birth;
 use sd_base::{Block, BlockNo, PageNo, Shape, write_super};
 use std::test::Fail;
@@ -56,12 +56,9 @@ fn what_a_format_answers(rt: HostRuntime) -> Result<(), Fail> {
         (263, 263, None, FORMAT, "ok\n"),
         (10, 263, None, FORMAT, "small disk 263 10\n"),
     ] {
-        let wrong = Faults {
-            replaced: Some((BlockNo(0), content)),
-            ..Faults::NONE
-        };
-        let mut disk = FaultyDisk::new(rt.alloc(), disk, wrong)?;
-        let mut vault = MemDisk::new(rt.alloc(), vault)?;
+        let disk = MisreadDisk::new(rt.alloc(), disk, BlockNo(0), content)?;
+        let mut disk = Fused::new(disk);
+        let mut vault = unarmed(rt.alloc(), vault)?;
         expect(&rt, &mut disk, &mut vault, format, reply)?;
     }
     Ok(())
@@ -70,8 +67,8 @@ fn what_a_format_answers(rt: HostRuntime) -> Result<(), Fail> {
 #[test]
 fn a_store_that_an_earlier_run_has_left(rt: HostRuntime) -> Result<(), Fail> {
     // No command opens it yet.
-    let mut disk = MemDisk::new(rt.alloc(), 263)?;
-    let mut vault = MemDisk::new(rt.alloc(), 263)?;
+    let mut disk = unarmed(rt.alloc(), 263)?;
+    let mut vault = unarmed(rt.alloc(), 263)?;
     let refused = "format 1 8 1 8 0\nget 1.0 5\ndump 1\nformat 1 8 1 8 0\n";
     for (script, transcript) in [
         (
@@ -143,11 +140,10 @@ fn blocks_that_are_not_what_they_should_be(rt: HostRuntime) -> Result<(), Fail> 
         (PUT_AT_LIMIT, 11, noise, "ok\nok\nok\ndamaged disk 11\n"),
         (PUT_AT_LIMIT, 11, None, "ok\nok\nok\nlost 1\n"),
     ] {
-        let wrong = Faults {
-            replaced: Some((BlockNo(at), content)),
-            ..Faults::NONE
-        };
-        let _ = expect_over(&rt, wrong, Faults::NONE, script, transcript)?;
+        let disk = MisreadDisk::new(rt.alloc(), 516, BlockNo(at), content)?;
+        let mut disk = Fused::new(disk);
+        let mut vault = unarmed(rt.alloc(), 516)?;
+        expect(&rt, &mut disk, &mut vault, script, transcript)?;
     }
     Ok(())
 }

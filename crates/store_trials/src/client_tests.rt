@@ -2,9 +2,9 @@
 
 ghost use Rattle.std.specs.Prelude.{◌≡◌, ◌≤◌, ◌<◌, ℕ, IsTrue, None};
 
-use crate::{CutDisk, Faults, FaultyDisk, write_in_order};
-use disk_model::MemDisk;
-use sd_base::{Block, BlockNo, Disk, NodeId, WriteAnswer};
+use crate::{CutDisk, write_in_order};
+use disk_model::{Fused, MemDisk};
+use sd_base::{Arm, Block, BlockNo, Disk, NodeId, WriteAnswer};
 use std::test::Fail;
 
 const NODE: NodeId = NodeId(2);
@@ -37,16 +37,34 @@ fn run_client<D: Disk>(disk: &mut D) -> (WriteAnswer, [u8; 2])
     (answer, [first, second])
 }
 
+// The client makes four calls: it writes a block and covers it, and then the other one.
+
 #[test]
-fn a_stop_at_each_call(rt: HostRuntime) -> Result<(), Fail> {
-    // The call that is stopped, whether what was written last stays, and what both blocks hold then.
-    for (call, picks, held) in [
+fn a_cut_at_each_write(rt: HostRuntime) -> Result<(), Fail> {
+    // The write that is cut, whether what was written last stays, and what both blocks hold then.
+    for (write, picks, held) in [
         (1, 0, [0, 0]),
         (1, u64::MAX, [7, 0]),
+        (2, 0, [7, 0]),
+        (2, u64::MAX, [7, 9]),
+    ] {
+        let mut disk = Fused::new(MemDisk::new(rt.alloc(), 4)?);
+        disk.arm(NODE, write, picks);
+        let ran = run_client(&mut disk);
+        assert_eq!(rt;
+            ran,
+            (WriteAnswer::Stopped, held),
+            "write {write} picks {picks}"
+        );
+    }
+    Ok(())
+}
+
+#[test]
+fn a_stop_at_each_barrier(rt: HostRuntime) -> Result<(), Fail> {
+    for (call, picks, held) in [
         (2, 0, [0, 0]),
         (2, u64::MAX, [7, 0]),
-        (3, 0, [7, 0]),
-        (3, u64::MAX, [7, 9]),
         (4, 0, [7, 0]),
         (4, u64::MAX, [7, 9]),
     ] {
@@ -58,32 +76,23 @@ fn a_stop_at_each_call(rt: HostRuntime) -> Result<(), Fail> {
             "call {call} picks {picks}"
         );
     }
-    let mut disk = MemDisk::new(rt.alloc(), 4)?;
-    assert_eq!(rt; run_client(&mut disk), (WriteAnswer::Done, [7, 9]));
     Ok(())
 }
 
 #[test]
-fn the_client_ends_at_the_first_call_that_is_not_done(rt: HostRuntime) -> Result<(), Fail> {
-    for (stop_at, fail_at, answer, held) in [
-        (1, 0, WriteAnswer::Stopped, [0, 0]),
-        (2, 0, WriteAnswer::Stopped, [7, 0]),
-        (3, 0, WriteAnswer::Stopped, [7, 0]),
-        (4, 0, WriteAnswer::Stopped, [7, 9]),
-        (0, 1, WriteAnswer::Failed, [0, 0]),
-        (0, 2, WriteAnswer::Failed, [7, 0]),
-        (0, 3, WriteAnswer::Failed, [7, 0]),
-        (0, 4, WriteAnswer::Failed, [7, 9]),
-        (0, 0, WriteAnswer::Done, [7, 9]),
+fn a_failure_at_each_call(rt: HostRuntime) -> Result<(), Fail> {
+    // What wasn't covered is gone.
+    for (call, answer, held) in [
+        (1, WriteAnswer::Failed, [0, 0]),
+        (2, WriteAnswer::Failed, [0, 0]),
+        (3, WriteAnswer::Failed, [7, 0]),
+        (4, WriteAnswer::Failed, [7, 0]),
+        (0, WriteAnswer::Done, [7, 9]),
     ] {
-        let wrong = Faults {
-            replaced: None,
-            stop_at,
-            fail_at,
-        };
-        let mut disk = FaultyDisk::new(rt.alloc(), 4, wrong)?;
+        let mut disk = Fused::new(MemDisk::new(rt.alloc(), 4)?);
+        disk.fail(NODE, call);
         let ran = run_client(&mut disk);
-        assert_eq!(rt; ran, (answer, held), "stop {stop_at} failure {fail_at}");
+        assert_eq!(rt; ran, (answer, held), "call {call}");
     }
     Ok(())
 }

@@ -4,29 +4,29 @@ ghost use Rattle.std.specs.Prelude.{◌≡◌, ◌≢◌, ◌↔◌, ◌+◌, �
 ghost use Rattle.sd_base.specs.Disk.{IsPort, IsFreeFor};
 ghost use Rattle.sd_base.specs.Calls.{Keeps, Narrows, NarrowsBut, NoNewWriter, NoNewWriterBut, KeepsForeign, KeepsForeignBut, Writes, CutsWrite, Covers, Settles};
 ghost use Rattle.sd_base.specs.Answers.{ReadCause, WriteCause, Reads, OnWrite};
-ghost use Rattle.store_trials.specs.Cut.{cut_state};
-ghost use Rattle.store_trials.specs.Faulty.{counts_at};
+ghost use Rattle.store_trials.specs.Cut.{counts_at, cut_state};
 
-use sd_base::{Block, BlockNo, Disk, NodeId, ReadAnswer, WriteAnswer};
+use sd_base::{Arm, Block, BlockNo, Disk, NodeId, ReadAnswer, WriteAnswer};
 
-/// A device over another one, of which one call stops the port that makes it.
+/// A device over another one, of which one call stops the port that makes it. It may be a read or a
+/// barrier, at which no device can be armed to stop.
 ///
 /// A write that is stopped has reached the device below, uncovered: what it leaves is up to `picks`.
 #[derive(Drop)]
 pub struct CutDisk<D> {
     disk: D,
     /// The read, write or barrier that is stopped, counted from 1. 0 for none.
-    stop_at: u64,
+    stop_at: u32,
     /// The advice that the device below gets at that stop.
     picks: u64,
-    calls: u64,
+    calls: u32,
     /// The stops that the device below doesn't count.
     cuts: [u64; 17],
 }
 
 impl<D: Disk> CutDisk<D> {
     /// A device over this one. The reads, writes and barriers count from here on.
-    pub fn new(disk: D, stop_at: u64, picks: u64) -> CutDisk<D>
+    pub fn new(disk: D, stop_at: u32, picks: u64) -> CutDisk<D>
         ensures state { ⟦<CutDisk<D> as Disk>⟧.state result ≡ cut_state (D.state disk) (replicate 17 0) }
         ensures plan { (result.stop_at ≡ stop_at) × (result.picks ≡ picks) × (result.calls ≡ 0) }
     {
@@ -39,12 +39,19 @@ impl<D: Disk> CutDisk<D> {
         }
     }
 
+    /// How many reads, writes and barriers there were.
+    pub fn calls(&self) -> u32
+        ensures { result ≡ self.now.calls }
+    {
+        self.calls
+    }
+
     /// Counts a call. True where it is the one that is stopped.
     fn is_cut(&mut self) -> bool
         ensures disk { self.new.disk ≡ self.old.disk }
         ensures cuts { self.new.cuts ≡ self.old.cuts }
         ensures turn { IsTrue result ↔ self.new.calls ≡ self.old.stop_at }
-        ensures count { self.new.calls ≡ min (self.old.calls + 1) (2 ^ 64 - 1) }
+        ensures count { self.new.calls ≡ min (self.old.calls + 1) (2 ^ 32 - 1) }
         ensures plan { (self.new.stop_at ≡ self.old.stop_at) × (self.new.picks ≡ self.old.picks) }
     {
         self.calls = self.calls.saturating_add(1);
@@ -94,7 +101,7 @@ impl<D: Disk> Disk for CutDisk<D> {
 
         // The call that is to be stopped is stopped.
         ensures turn { self.new.calls ≡ self.old.stop_at → result ≡ ReadAnswer.Stopped }
-        ensures count { self.new.calls ≡ min (self.old.calls + 1) (2 ^ 64 - 1) }
+        ensures count { self.new.calls ≡ min (self.old.calls + 1) (2 ^ 32 - 1) }
         ensures plan { (self.new.stop_at ≡ self.old.stop_at) × (self.new.picks ≡ self.old.picks) }
     {
         if self.is_cut() {
@@ -121,7 +128,7 @@ impl<D: Disk> Disk for CutDisk<D> {
 
         // The call that is to be stopped is stopped.
         ensures turn { self.new.calls ≡ self.old.stop_at → result ≡ WriteAnswer.Stopped }
-        ensures count { self.new.calls ≡ min (self.old.calls + 1) (2 ^ 64 - 1) }
+        ensures count { self.new.calls ≡ min (self.old.calls + 1) (2 ^ 32 - 1) }
         ensures plan { (self.new.stop_at ≡ self.old.stop_at) × (self.new.picks ≡ self.old.picks) }
     {
         let is_cut = self.is_cut();
@@ -148,7 +155,7 @@ impl<D: Disk> Disk for CutDisk<D> {
 
         // The call that is to be stopped is stopped.
         ensures turn { self.new.calls ≡ self.old.stop_at → result ≡ WriteAnswer.Stopped }
-        ensures count { self.new.calls ≡ min (self.old.calls + 1) (2 ^ 64 - 1) }
+        ensures count { self.new.calls ≡ min (self.old.calls + 1) (2 ^ 32 - 1) }
         ensures plan { (self.new.stop_at ≡ self.old.stop_at) × (self.new.picks ≡ self.old.picks) }
     {
         if self.is_cut() {
@@ -169,5 +176,17 @@ impl<D: Disk> Disk for CutDisk<D> {
 
     fn lose(&mut self, at: BlockNo) {
         self.disk.lose(at);
+    }
+}
+
+impl<D: Arm> Arm for CutDisk<D> {
+    ghost armed = { λ d. D.armed d.disk };
+
+    fn arm(&mut self, n: NodeId, writes: u32, picks: u64) {
+        self.disk.arm(n, writes, picks);
+    }
+
+    fn fail(&mut self, n: NodeId, calls: u32) {
+        self.disk.fail(n, calls);
     }
 }

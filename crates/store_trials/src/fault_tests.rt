@@ -1,8 +1,6 @@
 //! Scripts over devices of which one call stops or fails: which calls there are, and what is answered then.
 use crate::streams::{Script, Transcript};
-use crate::trial::{expect, expect_over, try_out};
-use crate::{Faults, FaultyDisk};
-use disk_model::MemDisk;
+use crate::trial::{Wrong, expect, expect_over, trial_disk, try_out, unarmed};
 use sd_base::{Block, BlockNo, Disk, NodeId, ReadAnswer};
 use shared_store::Status;
 use std::alloc::{AllocError, Global};
@@ -16,28 +14,33 @@ enum Device {
     Vault,
 }
 
-// Runs a script over devices of which a call stops, and then over devices of which it fails instead.
-fn expect_stop_and_failure(
-    rt: &(impl Abort + AllocGlobal),
+// A stop that leaves what was written last, and one that leaves what stood there before, as a failure does.
+const LAST: u64 = u64::MAX;
+
+const BEFORE: u64 = 0;
+
+/// A script of which a call stops or fails: the replies before it, and those behind it.
+#[derive(Clone, Copy)]
+struct Trial {
     device: Device,
-    call: u64,
-    script: &str,
-    before: &str,
-    after: &str,
+    script: &'static str,
+    before: &'static str,
+    after: &'static str,
+}
+
+// Runs a script over devices of which one does wrong, and gives this reply then.
+fn expect_reply(
+    rt: &(impl Abort + AllocGlobal),
+    trial: &Trial,
+    wrong: Wrong,
+    reply: &str,
 ) -> Result<(), Fail> {
-    for (stop_at, fail_at, reply) in [(call, 0, "stopped 1"), (0, call, "fault 1")] {
-        let wrong = Faults {
-            replaced: None,
-            stop_at,
-            fail_at,
-        };
-        let (disk, vault) = match device {
-            Device::Disk => (wrong, Faults::NONE),
-            Device::Vault => (Faults::NONE, wrong),
-        };
-        let transcript = format!(in rt.alloc(); "{before}{reply}\n{after}")?;
-        let _ = expect_over(rt, disk, vault, script, transcript.as_str())?;
-    }
+    let (disk, vault) = match trial.device {
+        Device::Disk => (wrong, Wrong::Nothing),
+        Device::Vault => (Wrong::Nothing, wrong),
+    };
+    let transcript = format!(in rt.alloc(); "{}{reply}\n{}", trial.before, trial.after)?;
+    let _ = expect_over(rt, disk, vault, trial.script, transcript.as_str())?;
     Ok(())
 }
 
@@ -53,22 +56,19 @@ const ABORT: &str = "format 1 8 1 8 0\nstart 1\nbegin 1.0\nput 1.0 5 a\nabort 1.
 const ABORT_OF_FLUSHED: &str =
     "format 1 8 1 8 0\nstart 1\nbegin 1.0\nput 1.0 5 a\nflush 1\nabort 1.0\nstat 1\n";
 
+// What `COMMANDS` goes on with where its first line opens no store: its last line opens one, or finds a super.
+const CLOSED: &str = "closed\nclosed\nclosed\nclosed\nclosed\nok\n";
+
+const CLOSED_AND_FORMATTED: &str = "closed\nclosed\nclosed\nclosed\nclosed\nformatted\n";
+
 #[test]
 fn a_stop_and_a_failure_at_each_kind_of_call(rt: HostRuntime) -> Result<(), Fail> {
-    let closed = "closed\nclosed\nclosed\nclosed\nclosed\nok\n";
-    let rows: [(Device, &[u64], &str, &str, &str); 10] = [
+    let rows: [(Device, &[u32], &str, &str, &str); 9] = [
         // The vault is written before the disk: the super, the anchor and 253 images, and then a barrier.
         (Device::Vault, &[1, 2, 255, 256], FORMAT, "", "closed\nok\n"),
         // The calls of `format`: a read, 262 writes and a barrier, a write and a barrier. Those of `start`:
         // the anchor and the first block of the ring are read. Then two pages are read, and the log is forced.
-        (Device::Disk, &[1, 2, 264, 265], COMMANDS, "", closed),
-        (
-            Device::Disk,
-            &[266],
-            COMMANDS,
-            "",
-            "closed\nclosed\nclosed\nclosed\nclosed\nformatted\n",
-        ),
+        (Device::Disk, &[1, 2, 264], COMMANDS, "", CLOSED),
         (
             Device::Disk,
             &[267, 268],
@@ -98,10 +98,10 @@ fn a_stop_and_a_failure_at_each_kind_of_call(rt: HostRuntime) -> Result<(), Fail
             "formatted\n",
         ),
         // A flush behind the two pages that a `put` reads: the block of the log is written and covered, and
-        // then each of the two pages.
+        // then the two pages are written, and covered by one barrier.
         (
             Device::Disk,
-            &[271, 272, 273, 274, 275, 276],
+            &[271, 272, 273, 274, 275],
             FLUSH,
             "ok\nok\nok\nok\n",
             "stat down\nnotup 1\n",
@@ -117,16 +117,45 @@ fn a_stop_and_a_failure_at_each_kind_of_call(rt: HostRuntime) -> Result<(), Fail
         ),
         (
             Device::Disk,
-            &[277, 278, 279, 280],
+            &[276, 277, 278, 279],
             ABORT_OF_FLUSHED,
             "ok\nok\nok\nok\nflushed 2\n",
             "stat down\n",
         ),
     ];
     for (device, calls, script, before, after) in rows {
+        let trial = Trial {
+            device,
+            script,
+            before,
+            after,
+        };
         for call in calls {
-            expect_stop_and_failure(&rt, device, *call, script, before, after)?;
+            expect_reply(&rt, &trial, Wrong::Stop(*call, BEFORE), "stopped 1")?;
+            expect_reply(&rt, &trial, Wrong::Stop(*call, LAST), "stopped 1")?;
+            expect_reply(&rt, &trial, Wrong::Fail(*call), "fault 1")?;
         }
+    }
+    Ok(())
+}
+
+#[test]
+fn a_super_that_is_not_covered(rt: HostRuntime) -> Result<(), Fail> {
+    // Call 265 writes it, and call 266 covers it. Only a stop that leaves what was written last leaves it.
+    let without = Trial {
+        device: Device::Disk,
+        script: COMMANDS,
+        before: "",
+        after: CLOSED,
+    };
+    let with = Trial {
+        after: CLOSED_AND_FORMATTED,
+        ..without
+    };
+    for call in [265, 266] {
+        expect_reply(&rt, &without, Wrong::Stop(call, BEFORE), "stopped 1")?;
+        expect_reply(&rt, &without, Wrong::Fail(call), "fault 1")?;
+        expect_reply(&rt, &with, Wrong::Stop(call, LAST), "stopped 1")?;
     }
     Ok(())
 }
@@ -138,10 +167,10 @@ fn an_abort_makes_no_other_call(rt: HostRuntime) -> Result<(), Fail> {
         (
             ABORT_OF_FLUSHED,
             "ok\nok\nok\nok\nflushed 2\nok\nstat up 5 0 43\n",
-            280,
+            279,
         ),
     ] {
-        let disk = expect_over(&rt, Faults::NONE, Faults::NONE, script, transcript)?;
+        let disk = expect_over(&rt, Wrong::Nothing, Wrong::Nothing, script, transcript)?;
         assert_eq!(rt; disk.calls(), calls, "{script}");
     }
     Ok(())
@@ -167,20 +196,18 @@ const ABORT_OF_TWO: &str =
 #[test]
 fn an_abort_reads_before_it_logs(rt: HostRuntime) -> Result<(), Fail> {
     // The first compensation fills the block. Behind the 268 calls of `format` and `start`, the three pages
-    // that the writes read, and the eight calls of a flush of three pages, the abort reads the map page and
-    // the page of each write; then the block is written.
+    // that the writes read, and the six calls of a flush of three pages, the abort reads the map page and
+    // the page of each write; then the block is written, and covered.
+    let nothing = Wrong::Nothing;
     let flushed = "ok\nok\nok\nok\nok\nflushed 3\n";
-    let mut disk = expect_over(&rt, Faults::NONE, Faults::NONE, FLUSH_OF_TWO, flushed)?;
+    let mut disk = expect_over(&rt, nothing, nothing, FLUSH_OF_TWO, flushed)?;
     let before = log_block(&rt, &mut disk);
-    for call in 280..286u64 {
-        let wrong = Faults {
-            fail_at: call,
-            ..Faults::NONE
-        };
-        let failed = "ok\nok\nok\nok\nok\nflushed 3\nfault 1\n";
-        let mut disk = expect_over(&rt, wrong, Faults::NONE, ABORT_OF_TWO, failed)?;
+    for call in 278..284 {
+        let stopped = "ok\nok\nok\nok\nok\nflushed 3\nstopped 1\n";
+        let stop = Wrong::Stop(call, LAST);
+        let mut disk = expect_over(&rt, stop, nothing, ABORT_OF_TWO, stopped)?;
         let is_written = log_block(&rt, &mut disk) != before;
-        assert_eq!(rt; is_written, call == 285, "call {call}");
+        assert_eq!(rt; is_written, call >= 282, "call {call}");
     }
     Ok(())
 }
@@ -198,16 +225,12 @@ fn lines(alloc: Global, form: &str) -> Result<String, AllocError> {
 // How many bytes of these rows a dump prints where this call of the disk fails. Behind them comes the fault.
 fn rows_before_a_fault(
     rt: &(impl Abort + AllocGlobal),
-    fail_at: u64,
+    fail_at: u32,
     script: &str,
     replies: &str,
 ) -> Result<usize, Fail> {
-    let wrong = Faults {
-        fail_at,
-        ..Faults::NONE
-    };
-    let mut disk = FaultyDisk::new(rt.alloc(), 271, wrong)?;
-    let mut vault = MemDisk::new(rt.alloc(), 263)?;
+    let mut disk = trial_disk(rt.alloc(), 271, Wrong::Fail(fail_at))?;
+    let mut vault = unarmed(rt.alloc(), 263)?;
     let source = Script::new(script.as_bytes(), 4096, &[]);
     let sink = Transcript::new(rt.alloc(), 4096, &[], &[]);
     let (status, sink) = try_out(rt, &mut disk, &mut vault, source, sink)?;
@@ -230,7 +253,7 @@ fn a_dump_that_a_fault_ends(rt: HostRuntime) -> Result<(), Fail> {
     )?;
     let done =
         "ok\nok\nok\nok\nok\nok\nok\nok\nok\nok\nok\nok\nok\nok\nok\nok\nok\nok\nok\nok\nok\nok\nok\nok\nflushed 16\n";
-    let none = Faults::NONE;
+    let none = Wrong::Nothing;
     let first = expect_over(&rt, none, none, before.as_str(), done)?.calls();
     let script = format!(in rt.alloc(); "{before}dump 1\n")?;
     let replies = format!(in rt.alloc(); "{done}{rows}end 20\n")?;
@@ -269,8 +292,8 @@ fn a_dump_looks_first_where_it_was(rt: HostRuntime) -> Result<(), Fail> {
             "format 1 8 17 8 0\nstart 1\nbegin 1.0\n{puts}commit 1.0\ndump 1\n"
         )?;
         let transcript = format!(in rt.alloc(); "ok\nok\nok\nok\nok\nok\n{rows}")?;
-        let mut disk = FaultyDisk::new(rt.alloc(), 4311, Faults::NONE)?;
-        let mut vault = MemDisk::new(rt.alloc(), 4311)?;
+        let mut disk = trial_disk(rt.alloc(), 4311, Wrong::Nothing)?;
+        let mut vault = unarmed(rt.alloc(), 4311)?;
         let (script, transcript) = (script.as_str(), transcript.as_str());
         expect(&rt, &mut disk, &mut vault, script, transcript)?;
         calls[i] = disk.calls();

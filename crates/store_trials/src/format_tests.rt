@@ -3,11 +3,13 @@ ghost use Rattle.std.specs.Prelude.{IsTrue};
 ghost use Rattle.sd_base.specs.Shape.{IsShape};
 ghost use Rattle.cluster_core.specs.Device.{IsAllCovered};
 
-use crate::cut::CutDisk;
+use crate::CutDisk;
 use cluster_core::{may_format, write_store};
-use disk_model::MemDisk;
+use disk_model::{Fused, MemDisk};
 use script_text::Reply;
-use sd_base::{Block, BlockNo, Disk, NodeId, ReadAnswer, Shape};
+use sd_base::{Arm, Block, BlockNo, Disk, NodeId, ReadAnswer, Shape};
+use std::alloc::{AllocError, Global};
+use std::process::Abort;
 use std::test::Fail;
 
 const NODE: NodeId = NodeId(1);
@@ -40,6 +42,13 @@ fn use_up<D: Disk>(disk: &mut D)
     let _ = disk.barrier(NODE);
 }
 
+// A device in memory that was used.
+fn used(alloc: Global, blocks: u32) -> Result<MemDisk, AllocError> {
+    let mut disk = MemDisk::new(alloc, blocks)?;
+    use_up(&mut disk);
+    Ok(disk)
+}
+
 fn format<D: Disk, V: Disk>(disk: &mut D, vault: &mut V, shape: &Shape) -> Result<(), Reply>
     requires { IsShape shape.now }
 {
@@ -66,74 +75,93 @@ fn is_used<D: Disk>(disk: &mut D, at: u32) -> bool {
     held(disk, at)[0] == USED[0]
 }
 
+// Compares which of the 264 blocks of a disk are written: those from 1 on up to a last one, and perhaps the super.
+fn expect_written<D: Disk>(rt: &impl Abort, disk: &mut D, last: u32, has_super: bool) {
+    for at in 0..264 {
+        let is_written = match at {
+            0 => has_super,
+            _ => at <= last,
+        };
+        assert_eq!(rt; is_used(disk, at), !is_written, "block {at}, last {last}");
+    }
+}
+
 #[test]
 fn a_disk_is_written_block_after_block(rt: HostRuntime) -> Result<(), Fail> {
-    // Call 1 reads block 0, call k + 1 writes block k, and call 264 covers. Then comes the super.
-    for stop_at in 2..=266 {
-        let mut disk = MemDisk::new(rt.alloc(), 264)?;
+    // Write k is that of block k, up to 262. Write 263 is that of the super.
+    for write in 1..=263u32 {
+        let mut disk = Fused::new(used(rt.alloc(), 264)?);
         let mut vault = MemDisk::new(rt.alloc(), 263)?;
-        use_up(&mut disk);
-        let mut disk = CutDisk::new(disk, u64::from(stop_at), LAST);
+        disk.arm(NODE, write, LAST);
         let answer = format(&mut disk, &mut vault, &SHAPE);
         assert_eq!(rt; answer, Err(Reply::Stopped(NODE)));
-        for at in 0..264 {
-            let written = match at {
-                0 => stop_at >= 265,
-                263 => false,
-                _ => at < stop_at,
-            };
-            assert_eq!(rt;
-                is_used(&mut disk, at),
-                !written,
-                "stop {stop_at}, block {at}"
-            );
-        }
+        expect_written(&rt, &mut disk, write.min(262), write == 263);
+    }
+    // Call 1 reads block 0, call 264 covers all blocks but the super, and call 266 covers that.
+    for (call, has_super) in [(264, false), (266, true)] {
+        let mut disk = CutDisk::new(used(rt.alloc(), 264)?, call, LAST);
+        let mut vault = MemDisk::new(rt.alloc(), 263)?;
+        let answer = format(&mut disk, &mut vault, &SHAPE);
+        assert_eq!(rt; answer, Err(Reply::Stopped(NODE)));
+        expect_written(&rt, &mut disk, 262, has_super);
     }
     Ok(())
 }
 
 #[test]
 fn a_super_comes_when_all_else_is_covered(rt: HostRuntime) -> Result<(), Fail> {
-    for (stop_at, written) in [(263, false), (264, false), (265, true), (266, true)] {
-        let mut disk = MemDisk::new(rt.alloc(), 263)?;
+    // The write that is cut or the call that fails, and the last block that is written then. What isn't covered
+    // holds what it held before.
+    for (write, call, answer, last) in [
+        (262, 0, Reply::Stopped(NODE), 0),
+        (0, 264, Reply::Fault(NODE), 0),
+        (263, 0, Reply::Stopped(NODE), 262),
+        (0, 266, Reply::Fault(NODE), 262),
+    ] {
+        let mut disk = Fused::new(used(rt.alloc(), 264)?);
         let mut vault = MemDisk::new(rt.alloc(), 263)?;
-        use_up(&mut disk);
-        let mut disk = CutDisk::new(disk, stop_at, BEFORE);
-        let answer = format(&mut disk, &mut vault, &SHAPE);
-        assert_eq!(rt; answer, Err(Reply::Stopped(NODE)));
-        for at in 0..263 {
-            let stays = at == 0 || !written;
-            assert_eq!(rt; is_used(&mut disk, at), stays, "stop {stop_at}, block {at}");
-        }
+        disk.arm(NODE, write, BEFORE);
+        disk.fail(NODE, call);
+        assert_eq!(rt; format(&mut disk, &mut vault, &SHAPE), Err(answer));
+        expect_written(&rt, &mut disk, last, false);
     }
     Ok(())
 }
 
+// Compares which of the 264 blocks of a vault are written: so many of the super, the anchor and the images.
+fn expect_vault_written<D: Disk>(rt: &impl Abort, vault: &mut D, writes: u32) {
+    for at in 0..264u32 {
+        let is_written = match at {
+            0 | 1 => at < writes,
+            10..=262 => at - 8 < writes,
+            _ => false,
+        };
+        assert_eq!(rt;
+            is_used(vault, at),
+            !is_written,
+            "vault {at}, writes {writes}"
+        );
+    }
+}
+
 #[test]
 fn a_vault_is_written_first_and_but_for_its_kept_blocks(rt: HostRuntime) -> Result<(), Fail> {
-    // Calls 1 and 2 write the super and the anchor, then come the images, and call 256 covers.
-    for stop_at in 1..=256 {
-        let mut disk = MemDisk::new(rt.alloc(), 263)?;
-        let mut vault = MemDisk::new(rt.alloc(), 264)?;
-        use_up(&mut disk);
-        use_up(&mut vault);
-        let mut vault = CutDisk::new(vault, u64::from(stop_at), LAST);
+    for write in 1..=255 {
+        let mut disk = used(rt.alloc(), 263)?;
+        let mut vault = Fused::new(used(rt.alloc(), 264)?);
+        vault.arm(NODE, write, LAST);
         let answer = format(&mut disk, &mut vault, &SHAPE);
         assert_eq!(rt; answer, Err(Reply::Stopped(NODE)));
-        for at in 0..264 {
-            let written = match at {
-                0 | 1 => at < stop_at,
-                10..=262 => at < stop_at + 8,
-                _ => false,
-            };
-            assert_eq!(rt;
-                is_used(&mut vault, at),
-                !written,
-                "stop {stop_at}, vault {at}"
-            );
-        }
+        expect_vault_written(&rt, &mut vault, write);
         assert!(rt; is_used(&mut disk, 0) && is_used(&mut disk, 1));
     }
+    // Call 256 covers them.
+    let mut disk = used(rt.alloc(), 263)?;
+    let mut vault = CutDisk::new(used(rt.alloc(), 264)?, 256, LAST);
+    let answer = format(&mut disk, &mut vault, &SHAPE);
+    assert_eq!(rt; answer, Err(Reply::Stopped(NODE)));
+    expect_vault_written(&rt, &mut vault, 255);
+    assert!(rt; is_used(&mut disk, 0) && is_used(&mut disk, 1));
     Ok(())
 }
 
@@ -168,10 +196,8 @@ fn map_text() -> Block {
 
 #[test]
 fn the_text_of_each_block(rt: HostRuntime) -> Result<(), Fail> {
-    let mut disk = MemDisk::new(rt.alloc(), 270)?;
-    let mut vault = MemDisk::new(rt.alloc(), 270)?;
-    use_up(&mut disk);
-    use_up(&mut vault);
+    let mut disk = used(rt.alloc(), 270)?;
+    let mut vault = used(rt.alloc(), 270)?;
     assert_eq!(rt; format(&mut disk, &mut vault, &TWO_NODES), Ok(()));
     let numbers = [(11, 1), (15, 2), (19, 4), (23, 1), (27, 1), (39, 7)];
     for at in 0..270u32 {

@@ -1,17 +1,19 @@
 //! Trials of the store over sources, sinks and devices in memory that fail where they are told to.
 //!
-//! Its devices meet the trait that the store stands on, so what is proved of the store holds over them;
-//! its tests show what no contract says and no script reaches. A client of two writes (`write_in_order`)
-//! shows what can be promised over any device. Nothing stands on this crate.
+//! A write is cut and a call fails by `disk_model::Fused`; what can't be armed has a device here: a stop
+//! in a read or a barrier (`CutDisk`), and a block that is read as something else (`MisreadDisk`). Both
+//! meet the trait that the store stands on, so what is proved of the store holds over them; the tests
+//! show what no contract says and no script reaches. A client of two writes (`write_in_order`) shows what
+//! can be promised over any device. Nothing stands on this crate.
 #![tactic(auto)]
 
 mod client;
 mod cut;
-mod device;
+mod misread;
 
 pub use client::write_in_order;
 pub use cut::CutDisk;
-pub use device::{Faults, FaultyDisk};
+pub use misread::MisreadDisk;
 
 #[cfg(test)]
 mod block_tests;

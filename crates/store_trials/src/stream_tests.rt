@@ -2,8 +2,7 @@
 ghost use Rattle.std.specs.Prelude.{◌≤◌, ◌^◌};
 
 use crate::streams::{Script, Transcript};
-use crate::trial::{try_out, words};
-use disk_model::MemDisk;
+use crate::trial::{try_out, unarmed, words};
 use sd_base::Source;
 use shared_store::{Status, run};
 use std::process::Abort;
@@ -19,8 +18,8 @@ fn expect_end(
 ) -> Result<(), Fail>
     requires { (⟦<Script<'static> as Source>⟧.state source).given ≤ 2 ^ 63 }
 {
-    let mut disk = MemDisk::new(rt.alloc(), 263)?;
-    let mut vault = MemDisk::new(rt.alloc(), 263)?;
+    let mut disk = unarmed(rt.alloc(), 263)?;
+    let mut vault = unarmed(rt.alloc(), 263)?;
     let (ended, sink) = try_out(rt, &mut disk, &mut vault, source, sink)?;
     assert_eq!(rt; ended, status, "{transcript}");
     assert_eq!(rt; sink.bytes(), transcript.as_bytes());
@@ -85,8 +84,8 @@ fn words_that_are_not_allowed(rt: HostRuntime) -> Result<(), Fail> {
     let mut two = words(alloc)?;
     two.push(String::from_str(alloc, "sweep")?)?;
     for words in [Vec::new(alloc), two] {
-        let mut disk = MemDisk::new(alloc, 263)?;
-        let mut vault = MemDisk::new(alloc, 263)?;
+        let mut disk = unarmed(alloc, 263)?;
+        let mut vault = unarmed(alloc, 263)?;
         let mut source = Script::new(b"get 1.0 5\n", 4096, &[]);
         let mut sink = Transcript::new(alloc, 4096, &[], &[]);
         let status = run(alloc, &words, &mut source, &mut sink, &mut disk, &mut vault);

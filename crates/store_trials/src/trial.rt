@@ -1,16 +1,53 @@
 //! How a script is run in a trial, and what is expected of it.
 ghost use Rattle.std.specs.Prelude.{◌≤◌, ◌^◌};
 
+use crate::CutDisk;
 use crate::streams::{Script, Transcript};
-use crate::{Faults, FaultyDisk};
-use sd_base::{Disk, NodeId, Source};
+use disk_model::{Fused, MemDisk};
+use sd_base::{Arm, Disk, NodeId, Source};
 use shared_store::{Status, run};
 use std::alloc::{AllocError, Global};
 use std::process::Abort;
 use std::test::Fail;
 
-/// How many blocks each device has that does wrong.
-const BLOCKS: u32 = 516;
+/// The port that does wrong where it is told to.
+const NODE: NodeId = NodeId(1);
+
+/// What a device of a trial does at one of its calls, counted from 1.
+#[derive(Clone, Copy)]
+pub(crate) enum Wrong {
+    Nothing,
+    /// The port stops in this call, and its blocks follow these picks.
+    Stop(u32, u64),
+    /// This call fails.
+    Fail(u32),
+}
+
+/// A device in memory that can be armed, and can stop in a call of any kind.
+pub(crate) type TrialDisk = CutDisk<Fused<MemDisk>>;
+
+/// A device in memory at which nothing is armed.
+pub(crate) fn unarmed(alloc: Global, blocks: u32) -> Result<Fused<MemDisk>, AllocError> {
+    Ok(Fused::new(MemDisk::new(alloc, blocks)?))
+}
+
+/// A device in memory that does this at a call of node 1.
+pub(crate) fn trial_disk(
+    alloc: Global,
+    blocks: u32,
+    wrong: Wrong,
+) -> Result<TrialDisk, AllocError> {
+    let mut disk = unarmed(alloc, blocks)?;
+    let (stop_at, picks) = match wrong {
+        Wrong::Nothing => (0, 0),
+        Wrong::Stop(call, picks) => (call, picks),
+        Wrong::Fail(call) => {
+            disk.fail(NODE, call);
+            (0, 0)
+        }
+    };
+    Ok(CutDisk::new(disk, stop_at, picks))
+}
 
 /// The program's name alone.
 pub(crate) fn words(alloc: Global) -> Result<Vec<String>, AllocError> {
@@ -31,7 +68,7 @@ fn has_live_port<D: Disk>(disk: &D) -> bool {
 
 /// Runs a script, and answers how it ends and its transcript. The store is closed then: no port may be
 /// used.
-pub(crate) fn try_out<D: Disk, V: Disk>(
+pub(crate) fn try_out<D: Arm, V: Arm>(
     rt: &(impl Abort + AllocGlobal),
     disk: &mut D,
     vault: &mut V,
@@ -47,7 +84,7 @@ pub(crate) fn try_out<D: Disk, V: Disk>(
 }
 
 /// Runs a script to its end, and compares the transcript, all of which is passed on.
-pub(crate) fn expect<D: Disk, V: Disk>(
+pub(crate) fn expect<D: Arm, V: Arm>(
     rt: &(impl Abort + AllocGlobal),
     disk: &mut D,
     vault: &mut V,
@@ -63,16 +100,17 @@ pub(crate) fn expect<D: Disk, V: Disk>(
     Ok(())
 }
 
-/// Runs a script over devices that do wrong, compares the transcript, and answers the disk.
+/// Runs a script over a disk and a vault of 516 blocks that do this, compares the transcript, and answers
+/// the disk.
 pub(crate) fn expect_over(
     rt: &(impl Abort + AllocGlobal),
-    disk: Faults,
-    vault: Faults,
+    disk: Wrong,
+    vault: Wrong,
     script: &str,
     transcript: &str,
-) -> Result<FaultyDisk, Fail> {
-    let mut disk = FaultyDisk::new(rt.alloc(), BLOCKS, disk)?;
-    let mut vault = FaultyDisk::new(rt.alloc(), BLOCKS, vault)?;
+) -> Result<TrialDisk, Fail> {
+    let mut disk = trial_disk(rt.alloc(), 516, disk)?;
+    let mut vault = trial_disk(rt.alloc(), 516, vault)?;
     expect(rt, &mut disk, &mut vault, script, transcript)?;
     Ok(disk)
 }

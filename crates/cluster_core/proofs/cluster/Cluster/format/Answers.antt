@@ -6,6 +6,16 @@ use Rattle.record_machine.specs.Meaning.{born}
 use Rattle.cluster_core.proofs.Opened.{after_failure, narrows_as, shows_formatted}
 use Rattle.cluster_core.proofs.cluster.Cluster.format.Goals as goal
 
+pub returns-in_err-write_store-clause-super_behind_disk : goal.returns-in_err-write_store-clause-super_behind_disk
+returns-in_err-write_store-clause-super_behind_disk g c = after_failure c.from_residual-in_err-write_store.result (λ told.
+    let a = (g.D.Disk.state c.args.disk.now).block in
+    let b = (g.D.Disk.state c.prepare.new.disk).block in
+    let d = (g.D.Disk.state c.write_store.new.disk).block in
+    elim (c.in_err-write_store.ensures.super_behind_disk told) [
+      | inl same ↦ inl (narrows_as 0 a b d ((c.prepare.ensures.disk_blocks told).outcomes 0) same)
+      | inr whole ↦ inr whole
+    ])
+
 pub returns-in_err-write_store-clause-super_behind_vault : goal.returns-in_err-write_store-clause-super_behind_vault
 returns-in_err-write_store-clause-super_behind_vault g c = after_failure c.from_residual-in_err-write_store.result (λ told vault_told.
     let a = (g.D.Disk.state c.args.disk.now).block in

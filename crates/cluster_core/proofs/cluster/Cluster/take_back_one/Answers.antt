@@ -17,6 +17,11 @@ use Rattle.cluster_core.specs.Cluster.{CanEnd, IsCluster}
 use Rattle.cluster_core.specs.Footprint.{NarrowsBesides}
 use Rattle.cluster_core.specs.Ports.{OnUp, says_stop}
 use Rattle.cluster_core.specs.Shows.{ShowsNode, ShowsStore}
+use Rattle.private_log.specs.Content.{region_of}
+use Rattle.private_log.specs.Reading.{IsLogFault}
+use Rattle.sd_base.specs.declared.device.NodeId.{NodeId}
+use Rattle.cluster_core.specs.LogReply.{IsLogReply}
+use Rattle.cluster_core.proofs.AbortCauses.{log_says}
 use Rattle.cluster_core.proofs.Fetching.{is_one, stop_says}
 use Rattle.cluster_core.proofs.Footprints.{besides_still, log_besides}
 use Rattle.cluster_core.proofs.Logging.{can_logged}
@@ -143,3 +148,13 @@ returns-clause-besides g c = λ told.
     let b = (g.D.Disk.state c.take_back_one-done.new.disk).block in
     let d = (g.D.Disk.state c.give_up.new.disk).block in
     subst (λ v. NarrowsBesides v.shape a d) c.self.view_is (besides_still s a b d (log_besides s c.in-Up.cache a b is.one is.is.store is.is.log_tie (c.take_back_one-done.ensures.outcomes told)) (c.give_up.ensures.outcomes told))
+
+pub returns-clause-fault : goal.returns-clause-fault
+returns-clause-fault g c =
+    let is : IsCluster c.self.inside.shape c.self.inside.shared.pool c.self.inside.shared.owners (Up c.in-Up.cache c.in-Up.seats) = subst (IsCluster c.self.inside.shape c.self.inside.shared.pool c.self.inside.shared.owners) c.in-Up.is c.self.invariant in
+    let inside = c.self.inside in
+    let cache = c.in-Up.cache in
+    let region : region_of cache.log.shape cache.log.node.0 ≡ region_of inside.shape 1 =
+    ap (λ t. region_of t cache.log.node.0) is.is.store.shape ∙ ap (region_of inside.shape) (ap (λ (n : NodeId). n.0) is.is.log_tie.node ∙ is_one inside.shape cache is.one is.is.store) in
+    let said = log_says inside.shape cache.node.0 c.in-Err.fault is.one (subst (λ r. IsLogFault r cache.node.0 c.in-Err.fault) region c.in-Err.ensures.fault) in
+    subst (λ v. IsLogReply (region_of v.shape 1) c.give_up.result) c.self.view_is (subst (IsLogReply (region_of inside.shape 1)) (sym c.give_up.ensures.says) said)

@@ -1,5 +1,5 @@
 use Rattle.std.proofs.Common.{◌≡◌, length}
-use Rattle.store_trials.proofs.device.zero_blocks.Given as goal
+use Rattle.store_trials.proofs.misread.zero_blocks.Given as goal
 
 abbrev pub invariant-loop : goal.invariant-loop
 invariant-loop l = length l.blocks.items ≡ l.counter
