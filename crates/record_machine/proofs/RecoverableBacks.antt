@@ -1,5 +1,5 @@
 -- The newest write of a transaction is taken back.
-use Rattle.std.proofs.Common.{◌≡◌, ◌≢◌, ◌⊎◌, inl, inr, ◌==◌, ◌&&◌, ◌+◌, ◌*◌, ◌<◌, ◌≤◌, ◌++◌, ℕ, suc, Bool, true, false, cond, List, [], ◌∷◌, length, filter, map, reverse, refl, ap, sym, subst, ◌∙◌, arith, Some, None, is_none, is_some, eq-eqb, ne_eqb}
+use Rattle.std.proofs.Common.{◌≡◌, ◌≢◌, ◌⊎◌, inl, inr, ◌==◌, ◌&&◌, ◌+◌, ◌<◌, ◌≤◌, ◌++◌, ℕ, suc, Bool, true, false, cond, List, [], ◌∷◌, length, filter, map, reverse, refl, ap, sym, subst, ◌∙◌, arith, Some, None, is_none, is_some, eq-eqb, ne_eqb}
 use Rattle.std.proofs.lemmas.Bool.{cases_eq, cases_lt}
 use Rattle.std.proofs.lemmas.List.{map-append, reverse-append}
 use Rattle.std.proofs.lemmas.List.Folds.{list_any-append}
@@ -169,7 +169,7 @@ module _ (dirty : ℕ → Bool) (h : History) (p : Plain) (m : Machine) (t : Txn
       go (inl a) (inr b) = inr (λ e. b (ap (λ (z : TxnId). z.seat) e), inr b)
       go (inr a) b = inr (λ e. a (ap (λ (z : TxnId). z.node.0) e), inl a)
 
-  busy_same : (u : TxnId) → is_busy m' u ≡ is_busy m u
+  pub busy_same : (u : TxnId) → is_busy m' u ≡ is_busy m u
   busy_same u = go (cases_eq u.node.0 t.node.0)
     where
       none : is_begin_in u.seat d ≡ false
@@ -232,11 +232,16 @@ module _ (dirty : ℕ → Bool) (h : History) (p : Plain) (m : Machine) (t : Txn
     begun = r.begun;
     seats = seats;
     opens = opens;
-    below = λ u k. longer n rec h.devices.first h.live u.node.0 (r.begun u.node.0 u.seat) (r.below u (known u k));
+    below = λ u up k. longer n rec h.devices.first h.live u.node.0 (r.begun u.node.0 u.seat) (r.below u up (known u k));
+    idle = λ u rest k. r.idle u rest (known u k);
     apart = λ a b x y. r.apart a b (known a x) (known b y);
     locked = r.locked;
     locker = r.locker;
   }
+
+  pub taken_back_begun : taken_back_now.begun ≡ r.begun
+  unfolding taken_back_now
+  taken_back_begun = refl
 
 pub back_recoverable : BackRecoverable
 back_recoverable dirty h p m t d w rec next op v r means busy newest write held is slot rule fits new rises =

@@ -1,5 +1,5 @@
 -- A transaction begins.
-use Rattle.std.proofs.Common.{filter, is_none, is_some, ◌≡◌, ◌≢◌, ◌⊎◌, inl, inr, ◌+◌, ◌%◌, ◌<◌, ◌++◌, ◌&&◌, ℕ, zero, suc, Bool, true, false, cond, eqb, List, [], ◌∷◌, length, map, refl, ap, ap₂, sym, subst, ◌∙◌, arith, Some, None, eq-eqb, ne_eqb, length-append}
+use Rattle.std.proofs.Common.{filter, is_none, is_some, ◌≡◌, ◌≢◌, ◌⊎◌, inl, inr, ◌+◌, ◌<◌, ◌++◌, ◌&&◌, ℕ, zero, suc, Bool, true, false, cond, eqb, List, [], ◌∷◌, length, map, refl, ap, ap₂, sym, subst, ◌∙◌, arith, Some, None, eq-eqb, ne_eqb, length-append}
 use Rattle.std.proofs.lemmas.Bool.{cases_eq}
 use Rattle.sd_base.specs.declared.names.Key.{Key}
 use Rattle.sd_base.specs.declared.names.TxnId.{TxnId}
@@ -8,7 +8,7 @@ use Rattle.record_locks.specs.Held.{mode_of}
 use Rattle.log_record.specs.declared.record.LogRecord.{LogRecord}
 use Rattle.log_record.specs.declared.record.LogRecord.TheVariants.{Begin}
 use Rattle.sd_base.specs.Places.{slot_of_key}
-use Rattle.record_machine.specs.Machine.{Deed, Machine, deeds_of, home, is_busy}
+use Rattle.record_machine.specs.Machine.{Deed, Idle, Machine, Up, deeds_of, home, is_busy}
 use Rattle.record_machine.specs.Meaning.{Means, Plain}
 use Rattle.record_machine.specs.Parts as part
 use Rattle.record_machine.proofs.DeedSteps.{one_txn}
@@ -28,7 +28,7 @@ use Rattle.record_machine.proofs.OpenSeats.{open_then}
 use Rattle.record_machine.proofs.LoggedLater.{began_below, live_more, longer, past_same}
 
 module _ (dirty : ℕ → Bool) (h : History) (p : Plain) (m : Machine) (t : TxnId) (r : Recoverable dirty h p m) (means : Means p m)
-    (fits : HasRoom h.devices t.node.0 (h.live t.node.0 ++ Begin ∷ [])) (unused : deeds_of m t ≡ []) (no_lock : (key : Key) → mode_of m.locks key t ≢ Some locks.Write) where
+    (at_work : m.mode t.node.0 ≡ Up) (fits : HasRoom h.devices t.node.0 (h.live t.node.0 ++ Begin ∷ [])) (unused : deeds_of m t ≡ []) (no_lock : (key : Key) → mode_of m.locks key t ≢ Some locks.Write) where
   abbrev n : ℕ
   n = t.node.0
 
@@ -50,7 +50,7 @@ module _ (dirty : ℕ → Bool) (h : History) (p : Plain) (m : Machine) (t : Txn
   begun_own : begun t.node.0 t.seat ≡ number
   begun_own = rw (eq-eqb t.node.0 t.node.0 refl, eq-eqb t.seat t.seat refl) refl
 
-  begun_other : (u : TxnId) → (u.node.0 ≢ t.node.0) ⊎ (u.seat ≢ t.seat) → begun u.node.0 u.seat ≡ r.begun u.node.0 u.seat
+  pub begun_other : (u : TxnId) → (u.node.0 ≢ t.node.0) ⊎ (u.seat ≢ t.seat) → begun u.node.0 u.seat ≡ r.begun u.node.0 u.seat
   begun_other u (inl ne) = rw (ne_eqb u.node.0 t.node.0 ne) refl
   begun_other u (inr ne) = go (eqb u.node.0 t.node.0)
     where
@@ -110,20 +110,20 @@ module _ (dirty : ℕ → Bool) (h : History) (p : Plain) (m : Machine) (t : Txn
   -- no transaction of the node that was open began with this record
   fresh : (u : TxnId) → IsKnown m u → u.node.0 ≡ t.node.0 → r.begun u.node.0 u.seat ≢ number
   fresh u k q e =
-      let low' : r.begun u.node.0 u.seat < h.devices.first n + length (h.live n) = subst (λ z. r.begun u.node.0 u.seat < h.devices.first z + length (h.live z)) q (r.below u k) in
+      let low' : r.begun u.node.0 u.seat < h.devices.first n + length (h.live n) = subst (λ z. r.begun u.node.0 u.seat < h.devices.first z + length (h.live z)) q (r.below u (ap m.mode q ∙ at_work) k) in
       absurd (omega arith)
 
   known : (u : TxnId) → (u.node.0 ≢ t.node.0) ⊎ (u.seat ≢ t.seat) → IsKnown m' u → IsKnown m u
   known u ne (inl b) = inl (was_busy u ne b)
   known u ne (inr l) = inr l
 
-  below : (u : TxnId) → IsKnown m' u → begun u.node.0 u.seat < h.devices.first u.node.0 + length (with_record n Begin h.live u.node.0)
-  below u k = go (own_or_not u)
+  below : (u : TxnId) → m.mode u.node.0 ≡ Up → IsKnown m' u → begun u.node.0 u.seat < h.devices.first u.node.0 + length (with_record n Begin h.live u.node.0)
+  below u up k = go (own_or_not u)
     where
       go : (u ≡ t) ⊎ ((u.node.0 ≢ t.node.0) ⊎ (u.seat ≢ t.seat)) → begun u.node.0 u.seat < h.devices.first u.node.0 + length (with_record n Begin h.live u.node.0)
       go (inl e) = subst (λ (z : TxnId). begun z.node.0 z.seat < h.devices.first z.node.0 + length (with_record n Begin h.live z.node.0)) (sym e)
           (rw (with_record-same n Begin h.live, begun_own) (omega (arith, length-append (h.live n) (Begin ∷ []))))
-      go (inr ne) = longer n Begin h.devices.first h.live u.node.0 (begun u.node.0 u.seat) (rw (begun_other u ne) (r.below u (known u ne k)))
+      go (inr ne) = longer n Begin h.devices.first h.live u.node.0 (begun u.node.0 u.seat) (rw (begun_other u ne) (r.below u up (known u ne k)))
 
   apart : (a b : TxnId) → IsKnown m' a → IsKnown m' b → a.node.0 ≡ b.node.0 → begun a.node.0 a.seat ≡ begun b.node.0 b.seat → a.seat ≡ b.seat
   apart a b ba bb q e = go (own_or_not a) (own_or_not b)
@@ -156,7 +156,7 @@ module _ (dirty : ℕ → Bool) (h : History) (p : Plain) (m : Machine) (t : Txn
   never_one : zero ≡ suc zero → ⊥
   never_one e = cc
 
-  not_busy : is_busy m t ≡ true → ⊥
+  pub not_busy : is_busy m t ≡ true → ⊥
   not_busy b =
       let z = (r.seats t b).begins in
       never_one (ap (λ (l : List Deed). length (filter (λ (e : Deed). is_none e.write) l)) (sym unused) ∙ ap (λ (l : List Deed). length l) z)
@@ -188,7 +188,16 @@ module _ (dirty : ℕ → Bool) (h : History) (p : Plain) (m : Machine) (t : Txn
     apart = apart;
     locked = locked;
     locker = locker;
+    idle = λ u rest k. idle u rest k (own_or_not u);
   }
+    where
+      idle : (u : TxnId) → m.mode u.node.0 ≡ Idle → IsKnown m' u → (u ≡ t) ⊎ ((u.node.0 ≢ t.node.0) ⊎ (u.seat ≢ t.seat)) → ⊥
+      idle u rest k (inl e) = let never : Idle ≡ Up = sym rest ∙ (ap (λ (z : TxnId). m.mode z.node.0) e ∙ at_work) in absurd cc
+      idle u rest k (inr ne) = r.idle u rest (known u ne k)
+
+  pub begun_is : (j seat : ℕ) → begun_now.begun j seat ≡ begun j seat
+  unfolding begun_now
+  begun_is j seat = refl
 
 pub begun_recoverable : BegunRecoverable
-begun_recoverable dirty h p m t r means fits unused no_lock = begun_now dirty h p m t r means fits unused no_lock
+begun_recoverable dirty h p m t r means at_work fits unused no_lock = begun_now dirty h p m t r means at_work fits unused no_lock

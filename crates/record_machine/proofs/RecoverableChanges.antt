@@ -1,5 +1,5 @@
 -- A change of a record is an update in the history.
-use Rattle.std.proofs.Common.{◌≡◌, ◌≢◌, ◌⊎◌, inl, inr, ◌+◌, ◌*◌, ◌%◌, ◌<◌, ◌≤◌, ◌++◌, ℕ, suc, Bool, true, cond, eqb, List, [], ◌∷◌, length, filter, map, reverse, take, refl, ap, ap₂, sym, subst, ◌∙◌, arith, Some, None, is_none, is_some, append-nil, unwrap_or, slice_index_or, eq-eqb, ne_eqb, take_all}
+use Rattle.std.proofs.Common.{◌≡◌, ◌≢◌, ◌⊎◌, inl, inr, ◌+◌, ◌<◌, ◌≤◌, ◌++◌, ℕ, suc, Bool, true, cond, eqb, List, [], ◌∷◌, length, filter, map, reverse, take, refl, ap, ap₂, sym, subst, ◌∙◌, arith, Some, None, is_none, is_some, append-nil, unwrap_or, slice_index_or, eq-eqb, ne_eqb, take_all}
 use Rattle.std.proofs.lemmas.Bool.{cases_eq}
 use Rattle.std.proofs.lemmas.List.Elements.{filter-append}
 use Rattle.std.proofs.lemmas.List.{reverse-append, take-append-le, map-append}
@@ -19,8 +19,8 @@ use Rattle.log_record.specs.Record.{change_of}
 use Rattle.sd_base.specs.Shape.{page_count}
 use Rattle.sd_base.specs.Places.{group_of, map_of_key, page_of_place, slot_of_key}
 use Rattle.record_machine.specs.Machine as machine
-use Rattle.record_machine.specs.Machine.{Deed, Machine, Write, home, is_busy, seen}
-use Rattle.record_machine.specs.Meaning.{Means, Plain, Tells}
+use Rattle.record_machine.specs.Machine.{Deed, Machine, Up, Write, home, is_busy, seen}
+use Rattle.record_machine.specs.Meaning.{IsChangedAt, Means, Plain, Tells}
 use Rattle.record_machine.proofs.Homes.{HasPlace, home_is_data, place_of as place_of_key}
 use Rattle.record_machine.proofs.LockSteps.{seen_locked}
 use Rattle.record_locks.specs.declared.mode.Mode.TheVariants as locks
@@ -40,6 +40,9 @@ use Rattle.recovery_theory.proofs.OpenUpdates.{left_of-append}
 use Rattle.recovery_theory.proofs.SlotChanges.{StepIs, step_of_update}
 use Rattle.recovery_theory.proofs.Room.{logged_keeps_room}
 use Rattle.record_machine.proofs.OpenSeats.{open_then}
+use Rattle.record_locks.specs.Held.{mode_of}
+use Rattle.recovery_theory.specs.Room.{HasRoom}
+use Rattle.recovery_theory.specs.Rules.{RuleOf}
 use Rattle.record_machine.specs.Recoverable.{HasSeat, IsKnown, Recoverable, TellsSeat}
 use Rattle.record_machine.specs.RecoverableParts.{ChangedRecoverable}
 use Rattle.record_machine.proofs.LoggedLater.{longer}
@@ -249,8 +252,8 @@ module _ (dirty : ℕ → Bool) (h : History) (p : Plain) (m : Machine) (t : Txn
   known u (inl b) = inl (sym (busy_written m t u d w refl) ∙ b)
   known u (inr l) = inr l
 
-  below : (u : TxnId) → IsKnown m' u → r.begun u.node.0 u.seat < h.devices.first u.node.0 + length (with_record n rec h.live u.node.0)
-  below u k = longer n rec h.devices.first h.live u.node.0 (r.begun u.node.0 u.seat) (r.below u (known u k))
+  below : (u : TxnId) → m.mode u.node.0 ≡ Up → IsKnown m' u → r.begun u.node.0 u.seat < h.devices.first u.node.0 + length (with_record n rec h.live u.node.0)
+  below u up k = longer n rec h.devices.first h.live u.node.0 (r.begun u.node.0 u.seat) (r.below u up (known u k))
 
   opens : (k txn : ℕ) (us : List OpenUpdate) → left_of txn (h.devices.first k) (with_record n rec h.live k) None ≡ Some us → HasSeat m' r.begun k txn
   opens = open_then h.devices.first n rec h.live (HasSeat m' r.begun) (λ b. let never : Begun ≡ Updated begin w.page (ident_of (image_now h w.page)) op up.back = sym b ∙ effect in absurd cc)
@@ -272,6 +275,7 @@ module _ (dirty : ℕ → Bool) (h : History) (p : Plain) (m : Machine) (t : Txn
     seats = seats;
     opens = opens;
     below = below;
+    idle = λ u rest k. r.idle u rest (known u k);
     apart = λ a b x y. r.apart a b (known a x) (known b y);
     locked = r.locked;
     locker = r.locker;
@@ -315,3 +319,12 @@ changed_recoverable dirty h p m t w rec op v r means busy is_home held mode tell
         let then : changed op (image_now h w.page) ≡ data_page v = ap (changed op) image ∙ apply_data op (p.pages w.page) v new in
         let made' : slots_of (data_page v) (slot_of_key w.key) ≡ slot_after op (slots_of (image_now h w.page) (slot_of_key w.key)) = subst (λ k. slots_of (data_page v) k ≡ slot_after op (slots_of (image_now h w.page) k)) at_place.0 (ap (λ i. slots_of i (place_of op)) (sym then) ∙ made) in
         ap (slot_after op) (sym slot_is) ∙ (sym made' ∙ at.here)
+
+-- the transactions in the seats begin as they did
+pub recoverable_begun : (dirty : ℕ → Bool) (h : History) (p : Plain) (m : Machine) (t : TxnId) (w : Write) (rec : LogRecord) (op : PageOp) (v : PageView) (r : Recoverable dirty h p m) (means : Means p m) (busy : is_busy m t ≡ true)
+    (is_home : home m w.key ≡ Some w.page) (held : m.hold w.page ≡ Some t.node.0) (mode : mode_of m.locks (record { 0 = w.key }) t ≡ Some locks.Write) (tells : Tells rec w (seen m t w.key)) (change : change_of rec ≡ Some op)
+    (txn : (fields_of rec).txn ≡ r.begun t.node.0 t.seat) (bsi : (fields_of rec).bsi ≡ (p.pages w.page).ident) (rule : RuleOf (h.devices.first t.node.0) (h.live t.node.0) rec (effect_of rec))
+    (fits : HasRoom h.devices t.node.0 (h.live t.node.0 ++ rec ∷ [])) (new : v ≡ applied op (p.pages w.page)) (at : IsChangedAt (slot_of_key w.key) w.value (p.pages w.page) v)
+    → (changed_recoverable dirty h p m t w rec op v r means busy is_home held mode tells change txn bsi rule fits new at).begun ≡ r.begun
+unfolding changed_recoverable changed_now
+recoverable_begun dirty h p m t w rec op v r means busy is_home held mode tells change txn bsi rule fits new at = refl

@@ -13,8 +13,7 @@ use Rattle.log_record.specs.declared.record.LogRecord.{LogRecord}
 use Rattle.std.proofs.lemmas.Bool.{eqb-true}
 use Rattle.sd_base.specs.Shape.{page_count}
 use Rattle.sd_base.specs.Places.{group_of, map_of_key, page_of_place, slot_of_key}
-use Rattle.record_machine.specs.Machine as machine
-use Rattle.record_machine.specs.Machine.{Deed, Machine, deeds_of, home, is_busy, seen}
+use Rattle.record_machine.specs.Machine.{Deed, Machine, home, is_busy, seen}
 use Rattle.record_machine.specs.Meaning.{Means, Plain, has_written}
 use Rattle.record_machine.specs.Parts as part
 use Rattle.record_machine.proofs.DeedSteps.{one_txn}
@@ -118,7 +117,7 @@ module _ (dirty : ℕ → Bool) (h : History) (p : Plain) (m : Machine) (t : Txn
           ap (λ z. Some z) (pl.page ∙ omega (arith, map_is, one, maps_is))
 
   -- what the transaction sees is what its open updates make of the record
-  seen_is : (key : Key) (x : ℕ) → home m key.0 ≡ Some x → m.records key.0 ≡ h.settled x (slot_of_key key.0) → seen m t key.0 ≡ with_updates (of_slot x (slot_of_key key.0) (open_updates h.devices.first h.live (transaction n begin))) (m.records key.0)
+  pub seen_is : (key : Key) (x : ℕ) → home m key.0 ≡ Some x → m.records key.0 ≡ h.settled x (slot_of_key key.0) → seen m t key.0 ≡ with_updates (of_slot x (slot_of_key key.0) (open_updates h.devices.first h.live (transaction n begin))) (m.records key.0)
   seen_is key x is value = go (list_cases (of_slot x (slot_of_key key.0) (open_updates h.devices.first h.live (transaction n begin)))) (cases_Bool (has_written m t key.0))
     where
       is_data : (m.shape.maps ≤ x) × (x < page_count m.shape)
@@ -246,11 +245,16 @@ module _ (dirty : ℕ → Bool) (h : History) (p : Plain) (m : Machine) (t : Txn
     begun = r.begun;
     seats = seats;
     opens = opens;
-    below = λ u k. longer t.node.0 rec h.devices.first h.live u.node.0 (r.begun u.node.0 u.seat) (r.below u (known u k));
+    below = λ u up k. longer t.node.0 rec h.devices.first h.live u.node.0 (r.begun u.node.0 u.seat) (r.below u up (known u k));
+    idle = λ u rest k. r.idle u rest (known u k);
     apart = λ a b x y. r.apart a b (known a x) (known b y);
     locked = r.locked;
     locker = r.locker;
   }
+
+  pub sealed_begun : sealed_now.begun ≡ r.begun
+  unfolding sealed_now
+  sealed_begun = refl
 
 pub sealed_recoverable : SealedRecoverable
 sealed_recoverable dirty h p m t rec r means busy is rule fits = sealed_now dirty h p m t rec r means busy is rule fits

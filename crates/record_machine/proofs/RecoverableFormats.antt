@@ -38,11 +38,16 @@ formatted_recoverable s = record {
   begun = λ n seat. 0;
   seats = λ t b. absurd (unknown s t (inl b));
   opens = λ k txn us e. absurd cc;
-  below = λ t k. absurd (unknown s t k);
+  below = λ t up k. absurd (unknown s t k);
+  idle = λ t rest k. unknown s t k;
   apart = λ t u k l. absurd (unknown s t k);
   locked = λ t key x is mode. absurd (unknown s t (inr (key, mode)));
   locker = λ o key x is e. absurd cc;
 }
+
+pub formatted_begun : (s : Shape) → (formatted_recoverable s).begun ≡ (λ n seat. 0)
+unfolding formatted_recoverable
+formatted_begun s = refl
 
 pub outcomes_stand : OutcomesStand
 outcomes_stand dirty h p m nodes cut r tops is = stands_at_cuts h m.records nodes cut r.holds r.roomy r.rolled tops is

@@ -48,7 +48,8 @@ relocked dirty h p m held l r free known locked locker = record {
   begun = r.begun;
   seats = λ u b. let z = r.seats u b in record { left = z.left; going = z.going; begins = z.begins; writes = z.writes };
   opens = λ k txn us e. let z = r.opens k txn us e in record { who = z.who; node = z.node; busy = z.busy; begins = z.begins };
-  below = λ u k. r.below u (known u k);
+  below = λ u up k. r.below u up (known u k);
+  idle = λ u rest k. r.idle u rest (known u k);
   apart = λ a b x y. r.apart a b (known a x) (known b y);
   locked = locked;
   locker = locker;
@@ -72,7 +73,7 @@ module _ (dirty : ℕ → Bool) (h : History) (p : Plain) (m : Machine) (key : K
   table = locked_taken key t mode m free means.locked
 
   -- who could write still can
-  keeps_write : (u : TxnId) (other : Key) → mode_of m.locks other u ≡ Some locks.Write → mode_of (taken m.locks key t mode) other u ≡ Some locks.Write
+  pub keeps_write : (u : TxnId) (other : Key) → mode_of m.locks other u ≡ Some locks.Write → mode_of (taken m.locks key t mode) other u ≡ Some locks.Write
   keeps_write u other had = by (get-taken m.locks key t mode (lock other u))
     where
       by : ((lock other u ≡ lock key t) × (finite.get (taken m.locks key t mode) (lock other u) ≡ Some (raised (mode_of m.locks key t) mode))) ⊎ (finite.get (taken m.locks key t mode) (lock other u) ≡ finite.get m.locks (lock other u))
@@ -185,16 +186,21 @@ module _ (dirty : ℕ → Bool) (h : History) (p : Plain) (m : Machine) (key : K
     gets : Recoverable dirty (with_locks h slots) p (with_held m (taken m.locks key t mode))
     gets = relocked dirty h p m (taken m.locks key t mode) slots r quiet known locked locker
 
-  pub locked_now : (l : ℕ → ℕ → Option Transaction) × Recoverable dirty (with_locks h l) p (with_held m (taken m.locks key t mode))
+  -- the transactions in the seats begin as they did
+  abbrev pub Relocks : Type 0
+  Relocks = (l : ℕ → ℕ → Option Transaction) × (r' : Recoverable dirty (with_locks h l) p (with_held m (taken m.locks key t mode))) × (r'.begun ≡ r.begun)
+
+  pub locked_now : Relocks
+  unfolding stays relocked gets
   locked_now = by (home m key.0) refl (raised (mode_of m.locks key t) mode) refl
     where
-      by : (o : Option ℕ) → home m key.0 ≡ o → (a : Mode) → raised (mode_of m.locks key t) mode ≡ a → (l : ℕ → ℕ → Option Transaction) × Recoverable dirty (with_locks h l) p (with_held m (taken m.locks key t mode))
-      by None e a b = (h.lock, stays (λ x is. let never : None ≡ Some x = sym e ∙ is in absurd cc))
-      by (Some x) e locks.Read b = (h.lock, stays (λ y is z. let never : locks.Read ≡ locks.Write = sym b ∙ z in absurd cc))
-      by (Some x) e locks.Write b = (slots x e b, gets x e b)
+      by : (o : Option ℕ) → home m key.0 ≡ o → (a : Mode) → raised (mode_of m.locks key t) mode ≡ a → Relocks
+      by None e a b = (h.lock, stays (λ x is. let never : None ≡ Some x = sym e ∙ is in absurd cc), refl)
+      by (Some x) e locks.Read b = (h.lock, stays (λ y is z. let never : locks.Read ≡ locks.Write = sym b ∙ z in absurd cc), refl)
+      by (Some x) e locks.Write b = (slots x e b, gets x e b, refl)
 
 pub locked_recoverable : LockedRecoverable
-locked_recoverable dirty h p m key t mode r means busy free = locked_now dirty h p m key t mode r means busy free
+locked_recoverable dirty h p m key t mode r means busy free = (let l = locked_now dirty h p m key t mode r means busy free in (l.0, l.1))
 
 -- ---- locks are released
 
@@ -220,7 +226,7 @@ module _ (dirty : ℕ → Bool) (h : History) (p : Plain) (m : Machine) (t : Txn
   its = transaction t.node.0 (r.begun t.node.0 t.seat)
 
   -- the locks but for the transaction's
-  abbrev but : Option Transaction → Option Transaction
+  abbrev pub but : Option Transaction → Option Transaction
   but None = None
   but (Some o) = cond (eqb o.node t.node.0 && eqb o.txn (r.begun t.node.0 t.seat)) None (Some o)
 
@@ -244,7 +250,7 @@ module _ (dirty : ℕ → Bool) (h : History) (p : Plain) (m : Machine) (t : Txn
       go (inl z) = let never : None ≡ Some o = sym (ap (λ q. but (Some q)) z ∙ but_own) ∙ e in absurd cc
       go (inr d) = let same : Some k ≡ Some o = sym (but_other k d) ∙ e in (same, λ z. d (let q : k ≡ o = cc in q ∙ z))
 
-  still : (u : TxnId) (key : Key) → u ≢ t → mode_of (without_txn t m.locks) key u ≡ mode_of m.locks key u
+  pub still : (u : TxnId) (key : Key) → u ≢ t → mode_of (without_txn t m.locks) key u ≡ mode_of m.locks key u
   still u key d = get-locks_where (λ l mode. not (same_txn l.txn t)) m.locks (lock key u) ∙ by (finite.get m.locks (lock key u))
     where
       by : (o : Option Mode) → passing (λ l mode. not (same_txn l.txn t)) (lock key u) o ≡ o
@@ -295,6 +301,10 @@ module _ (dirty : ℕ → Bool) (h : History) (p : Plain) (m : Machine) (t : Txn
                   let some = (r.holds.history.stands cut is).locks x s o w in
                   let q : Some k ≡ Some o = sym e ∙ some in
                   absurd (d (let j : k ≡ o = cc in sym j ∙ z))
+
+  pub unlocked_begun : unlocked_now.begun ≡ r.begun
+  unfolding unlocked_now relocked
+  unlocked_begun = refl
 
 pub unlocked_recoverable : UnlockedRecoverable
 unlocked_recoverable dirty h p m t r closed alone = (λ x s. but dirty h p m t r closed alone (h.lock x s), unlocked_now dirty h p m t r closed alone)

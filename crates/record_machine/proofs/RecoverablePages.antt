@@ -1,8 +1,9 @@
 -- Steps that change neither the present pages nor the records: a page passes to another node, is written, or more is stable.
 use Rattle.std.proofs.Common.{◌≡◌, ◌≢◌, ◌⊎◌, inl, inr, ℕ, ◌+◌, ◌*◌, ◌<◌, ◌≤◌, Bool, true, false, cond, eqb, length, refl, ap, sym, subst, ◌∙◌, arith, Option, Some, None, eq-eqb, ne_eqb}
 use Rattle.std.proofs.lemmas.Bool.{cases_eq}
+use Rattle.sd_base.specs.declared.names.TxnId.{TxnId}
 use Rattle.record_machine.specs.Machine as machine
-use Rattle.record_machine.specs.Machine.{Machine}
+use Rattle.record_machine.specs.Machine.{Idle, Machine, Up}
 use Rattle.space_map.specs.PageImage.{PageImage}
 use Rattle.recovery_theory.specs.History.{History, IsCut, entry_now, image_now}
 use Rattle.recovery_theory.specs.Steps.{on_disk, passed, set_at}
@@ -11,7 +12,11 @@ use Rattle.recovery_theory.proofs.Headroom.{force_keeps_rising, pass_keeps_risin
 use Rattle.recovery_theory.proofs.KeptRecords.{force_keeps, pass_keeps, write_keeps}
 use Rattle.recovery_theory.proofs.PageLaws.{in_life_from-same}
 use Rattle.recovery_theory.proofs.SlotChanges.{birth_le}
-use Rattle.record_machine.specs.Recoverable.{IsStored}
+use Rattle.record_machine.proofs.Put.{put_other}
+use Rattle.sd_base.specs.Places.{page_of_place}
+use Rattle.sd_base.specs.Shape.{pages_per_map}
+use Rattle.record_machine.specs.Meaning.{Plain}
+use Rattle.record_machine.specs.Recoverable.{IsKnown, IsStored, Recoverable}
 use Rattle.record_machine.specs.RecoverableParts.{StartedRecoverable, ForcedRecoverable, TakenRecoverable, WrittenRecoverable}
 
 -- a page that passed is the same page
@@ -56,6 +61,7 @@ taken_recoverable dirty h p m x n r clean map_held =
       seats = λ t busy. let z = r.seats t busy in record { left = z.left; going = z.going; begins = z.begins; writes = z.writes };
       opens = λ k txn us e. let z = r.opens k txn us e in record { who = z.who; node = z.node; busy = z.busy; begins = z.begins };
       below = r.below;
+      idle = r.idle;
       apart = r.apart;
       locked = r.locked;
       locker = r.locker;
@@ -83,6 +89,7 @@ forced_recoverable dirty h p m n k r low high = record {
   seats = λ t busy. let z = r.seats t busy in record { left = z.left; going = z.going; begins = z.begins; writes = z.writes };
   opens = λ k txn us e. let z = r.opens k txn us e in record { who = z.who; node = z.node; busy = z.busy; begins = z.begins };
   below = r.below;
+  idle = r.idle;
   apart = r.apart;
   locked = r.locked;
   locker = r.locker;
@@ -118,6 +125,7 @@ written_recoverable dirty h p m x r sure = record {
   seats = λ t busy. let z = r.seats t busy in record { left = z.left; going = z.going; begins = z.begins; writes = z.writes };
   opens = λ k txn us e. let z = r.opens k txn us e in record { who = z.who; node = z.node; busy = z.busy; begins = z.begins };
   below = r.below;
+  idle = r.idle;
   apart = r.apart;
   locked = r.locked;
   locker = r.locker;
@@ -131,7 +139,7 @@ written_recoverable dirty h p m x r sure = record {
     stored y e (inr d) = let s = r.stored y (rw (ne_eqb y x d) at e) in record { sure = s.sure; clean = rw (ne_eqb y x d) s.clean }
 
 pub started_recoverable : StartedRecoverable
-started_recoverable dirty h p m n r = record {
+started_recoverable dirty h p m n r rest = record {
   holds = r.holds;
   shape = r.shape;
   first = r.first;
@@ -145,8 +153,36 @@ started_recoverable dirty h p m n r = record {
   begun = r.begun;
   seats = λ t busy. let z = r.seats t busy in record { left = z.left; going = z.going; begins = z.begins; writes = z.writes };
   opens = λ k txn us e. let z = r.opens k txn us e in record { who = z.who; node = z.node; busy = z.busy; begins = z.begins };
-  below = r.below;
+  below = λ t up k. below t up k (cases_eq t.node.0 n);
   apart = r.apart;
   locked = r.locked;
   locker = r.locker;
+  idle = λ t still k. idle t still k (cases_eq t.node.0 n);
 }
+  where
+    below : (t : TxnId) → machine.put n Up m.mode t.node.0 ≡ Up → IsKnown m t → (t.node.0 ≡ n) ⊎ (t.node.0 ≢ n) → r.begun t.node.0 t.seat < h.devices.first t.node.0 + length (h.live t.node.0)
+    below t up k (inl e) = absurd (r.idle t (ap m.mode e ∙ rest) k)
+    below t up k (inr d) = r.below t (sym (put_other n Up m.mode t.node.0 d) ∙ up) k
+
+    idle : (t : TxnId) → machine.put n Up m.mode t.node.0 ≡ Idle → IsKnown m t → (t.node.0 ≡ n) ⊎ (t.node.0 ≢ n) → ⊥
+    idle t still k (inl e) = r.idle t (ap m.mode e ∙ rest) k
+    idle t still k (inr d) = r.idle t (sym (put_other n Up m.mode t.node.0 d) ∙ still) k
+
+-- ---- the transactions in the seats begin as they did
+
+pub taken_begun : (dirty : ℕ → Bool) (h : History) (p : Plain) (m : Machine) (x n : ℕ) (r : Recoverable dirty h p m) (clean : dirty x ≡ false)
+    (map_held : (map place : ℕ) → map < m.shape.maps → place < pages_per_map → x ≡ page_of_place m.shape map place → m.hold map ≡ Some n) → (taken_recoverable dirty h p m x n r clean map_held).begun ≡ r.begun
+unfolding taken_recoverable
+taken_begun dirty h p m x n r clean map_held = refl
+
+pub forced_begun : (dirty : ℕ → Bool) (h : History) (p : Plain) (m : Machine) (n k : ℕ) (r : Recoverable dirty h p m) (low : h.stable n ≤ k) (high : k ≤ length (h.live n)) → (forced_recoverable dirty h p m n k r low high).begun ≡ r.begun
+unfolding forced_recoverable
+forced_begun dirty h p m n k r low high = refl
+
+pub written_begun : (dirty : ℕ → Bool) (h : History) (p : Plain) (m : Machine) (x : ℕ) (r : Recoverable dirty h p m) (sure : h.last x ≤ h.stable (h.guard x)) → (written_recoverable dirty h p m x r sure).begun ≡ r.begun
+unfolding written_recoverable
+written_begun dirty h p m x r sure = refl
+
+pub started_begun : (dirty : ℕ → Bool) (h : History) (p : Plain) (m : Machine) (n : ℕ) (r : Recoverable dirty h p m) (rest : m.mode n ≡ Idle) → (started_recoverable dirty h p m n r rest).begun ≡ r.begun
+unfolding started_recoverable
+started_begun dirty h p m n r rest = refl

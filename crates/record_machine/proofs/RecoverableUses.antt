@@ -253,7 +253,7 @@ module _ (dirty : ℕ → Bool) (h : History) (p : Plain) (m : Machine) (n key p
           let same : l.0.0 ≡ other = ap (λ i. record { 0 = i }) z.0 in
           (t, ap (λ q. mode_of m.locks q t) (sym same) ∙ z.1, cc)
 
-  abbrev slots : ℕ → ℕ → Option Transaction
+  abbrev pub slots : ℕ → ℕ → Option Transaction
   slots y s = cond (eqb y (page_of_place h.devices.shape (map_of_key m.shape key) place)) (writer (16 * (key / 16) + s)) (h.lock y s)
 
   -- nothing is left of the new page
@@ -368,11 +368,16 @@ module _ (dirty : ℕ → Bool) (h : History) (p : Plain) (m : Machine) (n key p
     begun = r.begun;
     seats = seats;
     opens = opens;
-    below = λ u k. longer n rec h.devices.first h.live u.node.0 (r.begun u.node.0 u.seat) (r.below u (known u k));
+    below = λ u up k. longer n rec h.devices.first h.live u.node.0 (r.begun u.node.0 u.seat) (r.below u up (known u k));
+    idle = λ u rest k. r.idle u rest (known u k);
     apart = λ a b y z. r.apart a b (known a y) (known b z);
     locked = locked;
     locker = locker;
   }
+
+  pub used_begun : used_now.begun ≡ r.begun
+  unfolding used_now
+  used_begun = refl
 
 pub used_recoverable : UsedRecoverable
 used_recoverable dirty h p m n key place rec map r means none free held_map held_page is fits new =

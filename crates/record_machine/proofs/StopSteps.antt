@@ -1,9 +1,8 @@
 -- What a stop leaves: the other nodes, the pages that its changes haven't changed, and the locks.
-use Rattle.std.specs.Prelude.{◌≡◌, ◌≢◌, ◌==◌, ◌||◌, ◌⊎◌, ◌∷◌, [], ℕ, Bool, true, false, not, List, Option, Some, None, drop, if◌then◌else◌, refl}
+use Rattle.std.specs.Prelude.{◌≡◌, ◌≢◌, ◌==◌, ◌||◌, ◌∷◌, [], ℕ, Bool, true, false, not, List, Option, Some, None, drop, if◌then◌else◌, refl}
 use Rattle.std.specs.FinMap as finite
 use Rattle.std.specs.List.{list_any}
-use Rattle.std.proofs.Common.{inl, inr, ap, subst, sym, ◌∙◌, eq-eqb, ne_eqb}
-use Rattle.std.proofs.lemmas.Bool.{cases_eq}
+use Rattle.std.proofs.Common.{ap, sym, ◌∙◌, eq-eqb, ne_eqb}
 use Rattle.sd_base.specs.declared.names.Key.{Key}
 use Rattle.sd_base.specs.declared.names.TxnId.{TxnId}
 use Rattle.record_locks.specs.declared.mode.Mode.{Mode}
@@ -11,7 +10,7 @@ use Rattle.record_locks.specs.declared.mode.Mode.TheVariants as locks
 use Rattle.record_locks.specs.Held.{Held, is_write, mode_of, passing, without_reads_of}
 use Rattle.record_locks.specs.Order.{Lock, lock, lock_cmp}
 use Rattle.record_locks.proofs.HeldLaws.{get-locks_where}
-use Rattle.record_machine.specs.Machine.{Deed, Down, IdentBefore, LooseChange, Machine, put}
+use Rattle.record_machine.specs.Machine.{Deed, Down, IdentBefore, LooseChange, Machine}
 use Rattle.record_machine.specs.Parts.{is_of_page}
 use Rattle.record_machine.specs.Stops.{any_up, ident_before, pending_before, stop, tail_before, with_idents}
 use Rattle.record_machine.proofs.Put.{put_other}
@@ -33,7 +32,7 @@ neither : (a b : Bool) → (a || b) ≡ false → (a ≡ false) × (b ≡ false)
 neither true b is = cc
 neither false b is = (refl, is)
 
-idents_off : (x : ℕ) (is : List IdentBefore) (ident : ℕ → ℕ) → list_any (λ i. i.page == x) is ≡ false → with_idents is ident x ≡ ident x
+pub idents_off : (x : ℕ) (is : List IdentBefore) (ident : ℕ → ℕ) → list_any (λ i. i.page == x) is ≡ false → with_idents is ident x ≡ ident x
 idents_off x [] ident off = refl
 idents_off x (i ∷ is) ident off =
     let two = neither (i.page == x) (list_any (λ j. j.page == x) is) off in
@@ -48,21 +47,21 @@ idents_left x (c ∷ cs) ident off =
 -- ---- locks
 
 -- what stays of a node's locks
-abbrev reads_of : ℕ → Lock → Mode → Bool
+abbrev pub reads_of : ℕ → Lock → Mode → Bool
 reads_of h l mode = not (l.txn.node.0 == h) || is_write mode
 
-mode_without : (m : Held) (h : ℕ) (key : Key) (t : TxnId) → mode_of (without_reads_of (record { 0 = h }) m) key t ≡ passing (reads_of h) (lock key t) (mode_of m key t)
+pub mode_without : (m : Held) (h : ℕ) (key : Key) (t : TxnId) → mode_of (without_reads_of (record { 0 = h }) m) key t ≡ passing (reads_of h) (lock key t) (mode_of m key t)
 mode_without m h key t = get-locks_where (reads_of h) m (lock key t)
 
 -- the locks after a stop, whether or not the tables are lost
-abbrev locks_after : Bool → ℕ → Held → Held
+abbrev pub locks_after : Bool → ℕ → Held → Held
 locks_after up h held = if up then without_reads_of (record { 0 = h }) held else finite.empty
 
 or_true : (a : Bool) → (a || true) ≡ true
 or_true true = refl
 or_true false = refl
 
-write_stays : (m : Held) (h : ℕ) (key : Key) (t : TxnId) (up : Bool) → up ≡ true → mode_of m key t ≡ Some locks.Write → mode_of (locks_after up h m) key t ≡ Some locks.Write
+pub write_stays : (m : Held) (h : ℕ) (key : Key) (t : TxnId) (up : Bool) → up ≡ true → mode_of m key t ≡ Some locks.Write → mode_of (locks_after up h m) key t ≡ Some locks.Write
 write_stays m h key t true is had = mode_without m h key t ∙ (ap (passing (reads_of h) (lock key t)) had ∙ ap (λ b. if b then Some locks.Write else None) (or_true (not (t.node.0 == h))))
 write_stays m h key t false is had = cc
 
@@ -78,7 +77,7 @@ other_stays m h key t true is other = mode_without m h key t ∙ by (mode_of m k
     by None = refl
     by (Some mode) = rw (ne_eqb t.node.0 h other) refl
 
-none_new : (m : Held) (h : ℕ) (key : Key) (t : TxnId) (mode : Mode) (up : Bool) → mode_of (locks_after up h m) key t ≡ Some mode → mode_of m key t ≡ Some mode
+pub none_new : (m : Held) (h : ℕ) (key : Key) (t : TxnId) (mode : Mode) (up : Bool) → mode_of (locks_after up h m) key t ≡ Some mode → mode_of m key t ≡ Some mode
 none_new m h key t mode false has = let never : None ≡ Some mode = sym (finite.get-empty lock_cmp (lock key t)) ∙ has in cc
 none_new m h key t mode true has = by (mode_of m key t) (sym (mode_without m h key t) ∙ has)
   where

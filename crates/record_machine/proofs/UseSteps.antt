@@ -26,7 +26,7 @@ use Rattle.record_machine.proofs.Homes.{position_kept, position_set}
 use Rattle.record_machine.proofs.Put.{at_or_off, put_other, put_same}
 
 -- the free place of a map page
-free_there : (m : Machine) (map place : ℕ) → length (m.entries map) ≡ pages_per_map → position is_free (m.entries map) ≡ Some place → (place < pages_per_map) × (is_free (slice_index_or (m.entries map) place (Free 0)) ≡ true)
+pub free_there : (m : Machine) (map place : ℕ) → length (m.entries map) ≡ pages_per_map → position is_free (m.entries map) ≡ Some place → (place < pages_per_map) × (is_free (slice_index_or (m.entries map) place (Free 0)) ≡ true)
 free_there m map place count is = let at = position-Some is_free (m.entries map) place (Free 0) is in let low = at.0 in (omega (arith, low, count), at.1)
 
 free_unused : (e : MapEntry) (g : GroupNo) → is_free e ≡ true → is_used_by g e ≡ false
@@ -36,7 +36,7 @@ free_unused (Used group ident) g is = cc
 -- ---- the homes after it
 
 -- the home of a key of another group
-home_kept : (n map place : ℕ) (g : GroupNo) (m : Machine) (key : ℕ) → length (m.entries map) ≡ pages_per_map → position is_free (m.entries map) ≡ Some place → g.0 ≢ (group_of key).0 → home (one (Use n map place g) m) key ≡ home m key
+pub home_kept : (n map place : ℕ) (g : GroupNo) (m : Machine) (key : ℕ) → length (m.entries map) ≡ pages_per_map → position is_free (m.entries map) ≡ Some place → g.0 ≢ (group_of key).0 → home (one (Use n map place g) m) key ≡ home m key
 home_kept n map place g m key count free apart = ap (option_map (page_of_place m.shape (map_of_key m.shape key)))
     (at_or_off (λ es. position (is_used_by (group_of key)) es ≡ position (is_used_by (group_of key)) (m.entries (map_of_key m.shape key))) map (slice_set (m.entries map) place (now_used g m map place)) m.entries (map_of_key m.shape key)
     (λ same. position_kept (is_used_by (group_of key)) (m.entries map) place (now_used g m map place) (Free 0) (not_it ∙ sym (free_unused (slice_index_or (m.entries map) place (Free 0)) (group_of key) (free_there m map place count free).1)) ∙ ap (λ x. position (is_used_by (group_of key)) (m.entries x)) (sym same))

@@ -9,3 +9,7 @@ pub mod Left
 pub mod Meaning
 pub mod Recoverable
 pub mod RecoverableParts
+pub mod Cuts
+pub mod CutParts
+pub mod RecoverySteps
+pub mod RecoveryParts

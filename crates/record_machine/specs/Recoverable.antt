@@ -1,12 +1,12 @@
 -- What the history of a store means to the record machine, beside what its present pages and logs mean.
-use Rattle.std.specs.Prelude.{◌≡◌, ◌⊎◌, ◌+◌, ◌*◌, ◌%◌, ◌<◌, ◌≤◌, ◌∷◌, ℕ, Bool, true, false, List, [], Some, None, is_none, is_some, filter, length, map, reverse}
+use Rattle.std.specs.Prelude.{◌≡◌, ◌⊎◌, ◌+◌, ◌<◌, ◌≤◌, ◌∷◌, ℕ, Bool, true, false, List, [], Some, None, is_none, is_some, filter, length, map, reverse}
 use Rattle.sd_base.specs.declared.names.Key.{Key}
 use Rattle.sd_base.specs.declared.names.TxnId.{TxnId}
 use Rattle.sd_base.specs.Places.{slot_of_key}
 use Rattle.sd_base.specs.Shape.{page_count}
 use Rattle.record_locks.specs.declared.mode.Mode.TheVariants as locks
 use Rattle.record_locks.specs.Held.{mode_of}
-use Rattle.record_machine.specs.Machine.{Machine, deeds_of, home, is_busy}
+use Rattle.record_machine.specs.Machine.{Idle, Machine, Up, deeds_of, home, is_busy}
 use Rattle.record_machine.specs.Meaning.{Plain, first_record}
 use Rattle.space_map.specs.PageImage.{data_page, map_page}
 use Rattle.recovery_theory.specs.Effect.{Transaction, OpenUpdate, left_of}
@@ -59,8 +59,11 @@ pub record Recoverable (dirty : ℕ → Bool) (h : History) (p : Plain) (m : Mac
   pub begun : ℕ → ℕ → ℕ
   pub seats : (t : TxnId) → is_busy m t ≡ true → TellsSeat h m t (begun t.node.0 t.seat)
   pub opens : (n txn : ℕ) (left : List OpenUpdate) → left_of txn (h.devices.first n) (h.live n) None ≡ Some left → HasSeat m begun n txn
-  pub below : (t : TxnId) → IsKnown m t → begun t.node.0 t.seat < h.devices.first t.node.0 + length (h.live t.node.0)
+  -- of a node that is up, it stands in the log; after a stop it may have been cut off, while its locks stay
+  pub below : (t : TxnId) → m.mode t.node.0 ≡ Up → IsKnown m t → begun t.node.0 t.seat < h.devices.first t.node.0 + length (h.live t.node.0)
   pub apart : (t u : TxnId) → IsKnown m t → IsKnown m u → t.node.0 ≡ u.node.0 → begun t.node.0 t.seat ≡ begun u.node.0 u.seat → t.seat ≡ u.seat
   -- whoever may write a record has its slot locked, and nobody else
   pub locked : (t : TxnId) (key : Key) (x : ℕ) → home m key.0 ≡ Some x → mode_of m.locks key t ≡ Some locks.Write → h.lock x (slot_of_key key.0) ≡ Some (record { node = t.node.0; txn = begun t.node.0 t.seat })
   pub locker : (o : Transaction) (key : Key) (x : ℕ) → home m key.0 ≡ Some x → h.lock x (slot_of_key key.0) ≡ Some o → (t : TxnId) × (mode_of m.locks key t ≡ Some locks.Write) × (o ≡ record { node = t.node.0; txn = begun t.node.0 t.seat })
+  -- a node that isn't in use has no open transaction, and none of its transactions has a lock to write
+  pub idle : (t : TxnId) → m.mode t.node.0 ≡ Idle → IsKnown m t → ⊥

@@ -1,11 +1,11 @@
 -- Each elementary step of a store, on its history and on the machine: what the calls of the layers below have to show, and what
 -- then is recoverable.
-use Rattle.std.specs.Prelude.{◌≡◌, ◌≢◌, ◌+◌, ◌*◌, ◌^◌, ◌%◌, ◌<◌, ◌≤◌, ◌++◌, ◌∷◌, [], ℕ, Bool, true, false, Option, Some, None, IsTrue, length}
+use Rattle.std.specs.Prelude.{◌≡◌, ◌≢◌, ◌+◌, ◌^◌, ◌<◌, ◌≤◌, ◌++◌, ◌∷◌, [], ℕ, Bool, true, false, Option, Some, None, IsTrue, length}
 use Rattle.std.specs.List.{count_by}
 use Rattle.sd_base.specs.declared.names.TxnId.{TxnId}
 use Rattle.sd_base.specs.declared.shape.Shape.{Shape}
 use Rattle.sd_base.specs.Places.{group_of, map_of_key, page_of_place, slot_of_key}
-use Rattle.sd_base.specs.Shape.{page_count, pages_per_map}
+use Rattle.sd_base.specs.Shape.{pages_per_map}
 use Rattle.sd_base.specs.declared.page_op.PageOp.{PageOp}
 use Rattle.sd_base.specs.declared.page_op.PageOp.TheVariants.{MapUse}
 use Rattle.space_map.specs.Image.{MapImage}
@@ -21,7 +21,7 @@ use Rattle.record_locks.specs.Held.{mode_of}
 use Rattle.record_locks.specs.Answer.{lock_answer, may_take}
 use Rattle.record_locks.specs.declared.mode.Mode.{Mode}
 use Rattle.sd_base.specs.declared.names.Key.{Key}
-use Rattle.record_machine.specs.Machine.{Deed, Machine, Write, newest_of, formatted, free_place, deeds_of, home, is_busy, open_writes, owed, put, seen, writes_page}
+use Rattle.record_machine.specs.Machine.{Deed, Idle, Machine, Up, Write, newest_of, formatted, free_place, deeds_of, home, is_busy, open_writes, owed, put, seen, writes_page}
 use Rattle.record_machine.specs.Parts.{Take, Back, Begin as Begins, Change, Lock, Seal, Start, Unlock, Use, one}
 use Rattle.record_machine.specs.Meaning.{born, with_map, Means, Plain, Tells, IsChangedAt, logged, with_page}
 use Rattle.recovery_theory.specs.Effect.{Transaction, effect_of, of_slot, open_updates}
@@ -72,13 +72,14 @@ abbrev pub WrittenRecoverable : Type 0
 WrittenRecoverable = (dirty : ℕ → Bool) (h : History) (p : Plain) (m : Machine) (x : ℕ) → Recoverable dirty h p m
     → h.last x ≤ h.stable (h.guard x) → Recoverable (put x false dirty) (step.on_disk h x (Some (image_now h x))) p m
 
--- a node comes up
+-- a node that isn't in use comes up
 abbrev pub StartedRecoverable : Type 0
-StartedRecoverable = (dirty : ℕ → Bool) (h : History) (p : Plain) (m : Machine) (n : ℕ) → Recoverable dirty h p m → Recoverable dirty h p (one (Start n) m)
+StartedRecoverable = (dirty : ℕ → Bool) (h : History) (p : Plain) (m : Machine) (n : ℕ) → Recoverable dirty h p m → m.mode n ≡ Idle → Recoverable dirty h p (one (Start n) m)
 
--- A transaction begins in a seat that is free, and has no lock.
+-- A transaction begins at a node that is up, in a seat that is free, and has no lock.
 abbrev pub BegunRecoverable : Type 0
 BegunRecoverable = (dirty : ℕ → Bool) (h : History) (p : Plain) (m : Machine) (t : TxnId) → Recoverable dirty h p m → Means p m
+    → m.mode t.node.0 ≡ Up
     → HasRoom h.devices t.node.0 (h.live t.node.0 ++ Begin ∷ [])
     → deeds_of m t ≡ [] → ((key : Key) → mode_of m.locks key t ≢ Some locks.Write)
     → Recoverable dirty (step.logged h t.node.0 Begin (entry_now h) (image_now h) h.last) (logged t.node.0 Begin p) (one (Begins t) m)

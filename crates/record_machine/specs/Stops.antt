@@ -65,6 +65,10 @@ with_tables m = record m {
   reopening = if any_up m then m.reopening else true;
 }
 
+-- Node h stops, and so many of its loose changes are kept, but no table is lost.
+abbrev pub halted : (h kept : ℕ) → Machine → Machine
+halted h kept m = down h (changes_back h (drop kept (m.loose h)) m)
+
 -- Node h stops: so many of its loose changes are kept, and those behind them are taken back.
 abbrev pub stop : (h kept : ℕ) → Machine → Machine
 stop h kept m = with_tables (down h (changes_back h (drop kept (m.loose h)) m))
