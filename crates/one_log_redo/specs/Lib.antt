@@ -1,0 +1,3 @@
+pub mod Redoing
+pub mod Records
+pub mod Steps
