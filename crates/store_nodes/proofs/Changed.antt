@@ -28,7 +28,7 @@ use Rattle.store_nodes.proofs.Logs as logs
 use Rattle.store_nodes.proofs.Others.{node_stays}
 
 -- a page of a list is found by its number
-found_by : (x : PageNo) (ps : List CachedPage) (j : ℕ) (d : CachedPage) → j < length ps → (slice_index_or ps j d).ticket.page ≡ x → is_some (page_at x ps) ≡ true
+pub found_by : (x : PageNo) (ps : List CachedPage) (j : ℕ) (d : CachedPage) → j < length ps → (slice_index_or ps j d).ticket.page ≡ x → is_some (page_at x ps) ≡ true
 found_by x [] j d below here = absurd (omega (arith, below))
 found_by x (p ∷ ps) zero d below here = let yes : is_page x p ≡ true = eq-eqb p.ticket.page.0 x.0 (ap (λ (y : PageNo). y.0) here) in rw yes refl
 found_by x (p ∷ ps) (suc j) d below here = by (is_page x p) refl (found_by x ps j d (omega (arith, below)) here)

@@ -70,7 +70,7 @@ filter_both seat (d ∷ ds) = by (d.seat == seat) refl (is_some d.write) refl (f
 abbrev pub numbers_back : List Deed → List ℕ
 numbers_back ds = reverse (map (λ d. d.number) ds)
 
-back_parts : (earlier later : List Deed) (d : Deed) → numbers_back (earlier ++ d ∷ later) ≡ numbers_back later ++ d.number ∷ numbers_back earlier
+pub back_parts : (earlier later : List Deed) (d : Deed) → numbers_back (earlier ++ d ∷ later) ≡ numbers_back later ++ d.number ∷ numbers_back earlier
 back_parts earlier later d =
     ap reverse (map-append (λ (e : Deed). e.number) earlier (d ∷ later))
     ∙ reverse-append (map (λ (e : Deed). e.number) earlier) (d.number ∷ map (λ (e : Deed). e.number) later)
@@ -87,11 +87,11 @@ module _ (n : ℕ) (s : Shape) (pool : List (Option (List ℕ))) (c : CacheState
   own : IsOpenIn first (p.live n) u
   own = seat_told seats c.log.start t.seat u (p.live n) was.told busy
 
-  stand : All (Stands first (p.live n)) (m.pending n)
+  pub stand : All (Stands first (p.live n)) (m.pending n)
   stand = all_stand first (p.live n) (λ seat. m.records) (m.pending n) (subst (λ j. AreLogged (6 * j) (p.live n) (λ seat. m.records) (m.pending n)) was.start (logs.deeds n))
 
   -- a deed whose number is left wrote
-  wrote : (d : Deed) (newer before : List ℕ) → Stands first (p.live n) d → left ≡ newer ++ d.number ∷ before → is_some d.write ≡ true
+  pub wrote : (d : Deed) (newer before : List ℕ) → Stands first (p.live n) d → left ≡ newer ++ d.number ∷ before → is_some d.write ≡ true
   wrote d newer before stands at = by d.write refl
     where
       by : (o : Option Write) → d.write ≡ o → is_some d.write ≡ true

@@ -1,13 +1,18 @@
 -- Why a call of a node gives another answer than that it is done.
-use Rattle.std.specs.Prelude.{◌≡◌, ◌≢◌, ◌⊎◌, ⊤, ℕ, List, Option, None}
+use Rattle.std.specs.Prelude.{◌≡◌, ◌≢◌, ◌⊎◌, ⊤, ℕ, true, List, Option, None, Some}
+use Rattle.sd_base.specs.declared.device.NodeId.{NodeId}
 use Rattle.sd_base.specs.declared.names.PageNo.{PageNo}
 use Rattle.sd_base.specs.declared.shape.Shape.{Shape}
 use Rattle.space_map.specs.PageImage.{PageImage}
+use Rattle.page_owner.specs.Owners.{owner_of}
 use Rattle.private_log.specs.Content.{Region}
 use Rattle.private_log.specs.Reading.{IsBroken, IsInRegion}
 use Rattle.state_ids.specs.Blocks.{HoldsPage, page_place}
 use Rattle.script_text.specs.declared.reply.Reply.{Reply}
 use Rattle.script_text.specs.declared.reply.Reply.TheVariants as says
+use Rattle.store_nodes.specs.declared.store.Store.{Store}
+use Rattle.store_nodes.specs.Known.{held_in}
+use Rattle.store_nodes.specs.Nodes.{IsHeldBy, is_up, node_at}
 
 -- ---- a page
 
@@ -25,6 +30,20 @@ abbrev pub IsToldOfPages : Shape → (ℕ → Option (List ℕ)) → Reply → T
 IsToldOfPages s image (says.LostPage x) = image (page_place s x) ≡ None
 IsToldOfPages s image (says.DamagedDisk at) = (image at.0 ≢ None) × ((x : PageNo) (held : PageImage) → at.0 ≡ page_place s x → ¬ (HoldsPage s x held (image at.0)))
 IsToldOfPages s image reply = ⊤
+
+-- a node that has a hand in it where node n takes the page x: n, and the one that has the page, if that is up
+abbrev pub IsTaker : Store → ℕ → PageNo → NodeId → Type 0
+IsTaker c n x m = (m.0 ≡ n) ⊎ (IsHeldBy m (owner_of c.shared.owners x.0) × (is_up (node_at c.nodes m.0) ≡ true))
+
+-- the page x couldn't be taken: one of these stopped, a node that is down has the page, or the page's block is lost or
+-- damaged
+abbrev pub IsFaultOfTake : Store → ℕ → PageNo → Reply → Type 0
+IsFaultOfTake c n x (says.Stopped m) = IsTaker c n x m
+IsFaultOfTake c n x (says.Fault m) = IsTaker c n x m
+IsFaultOfTake c n x (says.Held y h) = held_in c x ≡ Some (says.Held y h)
+IsFaultOfTake c n x (says.LostPage y) = y ≡ x
+IsFaultOfTake c n x (says.DamagedDisk at) = at.0 ≡ page_place c.shape x
+IsFaultOfTake c n x reply = ⊥
 
 -- ---- a log
 

@@ -3,10 +3,13 @@ use Rattle.std.specs.Prelude.{◌≡◌, ◌≢◌, ◌⊎◌, ◌+◌, ◌%◌,
 use Rattle.sd_base.specs.Disk.{BlockState, MayHold}
 use Rattle.sd_base.specs.Places.{map_of_data}
 use Rattle.sd_base.specs.Shape.{page_count}
+use Rattle.sd_base.specs.declared.device.NodeId.{NodeId}
 use Rattle.sd_base.specs.declared.names.PageNo.{PageNo}
 use Rattle.sd_base.specs.declared.shape.Shape.{Shape}
+use Rattle.page_owner.specs.Owners.{owner_of}
 use Rattle.private_log.specs.Content.{place, region_of}
 use Rattle.state_ids.specs.Blocks.{page_place}
+use Rattle.node_cache.specs.Room.{IsOpenTo}
 use Rattle.store_nodes.specs.declared.store.Store.{Store}
 use Rattle.store_nodes.specs.Nodes.{OnUp, node_at}
 use Rattle.store_nodes.specs.Pages.{HasCached}
@@ -39,6 +42,12 @@ pub record MadeRoom (n : ℕ) (x : PageNo) (c d : Store) (old new : ℕ → Bloc
   pub came : (y : PageNo) → HasCached d n y → (y ≡ x) ⊎ HasCached c n y
   pub full : IsFull c n → IsFull d n
   pub room : (y : PageNo) → y.0 < page_count c.shape → KeepsPage c.shape y old new ⊎ (HasCached c n y × IsFull d n × (c.shape.maps ≤ x.0 → y ≢ map_of_data c.shape x))
+
+-- The same, where another node may have had to give up the page, and has written it then.
+pub record TookPage (n : NodeId) (x : PageNo) (c d : Store) (old new : ℕ → BlockState) : Type 0 where
+  pub came : (y : PageNo) → HasCached d n.0 y → (y ≡ x) ⊎ HasCached c n.0 y
+  pub full : IsFull c n.0 → IsFull d n.0
+  pub room : (y : PageNo) → y.0 < page_count c.shape → KeepsPage c.shape y old new ⊎ (HasCached c n.0 y × IsFull d n.0 × (c.shape.maps ≤ x.0 → y ≢ map_of_data c.shape x)) ⊎ ((y ≡ x) × ¬ (IsOpenTo n (owner_of c.shared.owners x.0)))
 
 -- no page comes into the node's cache or goes, and no page's block changes
 pub record KeepsCache (n : ℕ) (c d : Store) (old new : ℕ → BlockState) : Type 0 where

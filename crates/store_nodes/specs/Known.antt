@@ -3,6 +3,10 @@ use Rattle.std.specs.Prelude.{◌∷◌, [], ◌-◌, ◌*◌, ℕ, Bool, true, 
 use Rattle.sd_base.specs.declared.device.NodeId.{NodeId}
 use Rattle.sd_base.specs.declared.names.Key.{Key}
 use Rattle.sd_base.specs.declared.names.TxnId.{TxnId}
+use Rattle.sd_base.specs.declared.names.PageNo.{PageNo}
+use Rattle.page_owner.specs.declared.owners.Own.{Own}
+use Rattle.page_owner.specs.declared.owners.Own.TheVariants.{Nobody, Out, Parked}
+use Rattle.page_owner.specs.Owners.{owner_of}
 use Rattle.record_locks.specs.declared.mode.Mode.{Mode}
 use Rattle.record_locks.specs.declared.mode.Mode.TheVariants as locks
 use Rattle.record_locks.specs.Answer.{lock_answer}
@@ -53,6 +57,15 @@ no_lock c key t mode = lock_refusal (lock_answer c.shared.locks key t mode)
 -- a transaction has a lock: the least one that has
 abbrev pub any_lock : Store → Option Reply
 any_lock c = option_map says.Busy (least_where (λ l mode. true) c.shared.locks)
+
+-- a node that is down has the page
+abbrev pub held_by : Store → PageNo → Own → Option Reply
+held_by c x Nobody = None
+held_by c x (Parked h) = where_so (not (is_up (node_at c.nodes h.0))) (says.Held x h)
+held_by c x (Out h) = where_so (not (is_up (node_at c.nodes h.0))) (says.Held x h)
+
+abbrev pub held_in : Store → PageNo → Option Reply
+held_in c x = held_by c x (owner_of c.shared.owners x.0)
 
 -- the log of the node has no room for so many records
 abbrev pub no_room : Store → NodeId → ℕ → Option Reply

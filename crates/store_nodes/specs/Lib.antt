@@ -6,3 +6,5 @@ pub mod Known
 pub mod Shows
 pub mod Causes
 pub mod Footprint
+pub mod Flushes
+pub mod Updates

@@ -8,10 +8,11 @@ use Rattle.space_map.specs.declared.map_entry.MapEntry.{MapEntry}
 use Rattle.space_map.specs.declared.map_entry.MapEntry.TheVariants.{Free, Used}
 use Rattle.space_map.specs.Image.{MapImage}
 use Rattle.space_map.specs.PageImage.{map_page}
-use Rattle.private_log.specs.Log.{space}
+use Rattle.private_log.specs.Log.{SameLog, space}
 use Rattle.state_ids.specs.Held.{Shows}
 use Rattle.record_machine.specs.Commands.{joined}
-use Rattle.node_cache.specs.Cache.{CachedPage, CacheState, has_changes, is_cached, page_at}
+use Rattle.node_cache.specs.Cache.{CachedPage, CacheState, has_changes, is_cached, is_changed, page_at}
+use Rattle.node_cache.specs.Room.{without_page}
 use Rattle.txn_core.specs.Seats.{OpenTxn, SeatsState, is_busy, owed, txn_in}
 use Rattle.txn_core.specs.Updates.{HasPage}
 use Rattle.txn_core.specs.declared.change.Change.{Change}
@@ -99,6 +100,15 @@ pub record UsesPlace (first : ℕ) (pool after : List (Option (List ℕ))) (c d 
 -- the cache has the pages that it had, with the changes that it had made of them
 abbrev pub KeepsPages : CacheState → CacheState → Type 0
 KeepsPages c d = d.pages ≡ c.pages
+
+-- A node after it has given up the page x: no other page of its cache has changed; where x had changes, all records of its
+-- log are stable, and else the log is as it was.
+pub record GivesUp (x : PageNo) (c d : CacheState) : Type 0 where
+  pub pages : d.pages ≡ without_page x c.pages
+  pub same : SameLog c.log d.log
+  pub tail : d.log.tail ≡ c.log.tail
+  pub stable : is_changed x c ≡ true → d.log.stable ≡ c.log.tail
+  pub kept : is_changed x c ≡ false → d.log ≡ c.log
 
 -- The pages that the cache had changed were written, and so many there were: it has changed none since, and all records
 -- of its log are stable.

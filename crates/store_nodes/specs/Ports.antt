@@ -1,7 +1,8 @@
 -- What a store asks of its devices, and what a call of one node leaves of the store and of them.
-use Rattle.std.specs.Prelude.{◌≡◌, ◌≢◌, ◌<◌, ◌-◌, ⊤, ℕ, Bool, true, false, List, Option, None, Some, Result, Ok, Err, nat_le, if◌then◌else◌}
+use Rattle.std.specs.Prelude.{◌≡◌, ◌≢◌, ◌⊎◌, ◌<◌, ◌-◌, ⊤, ℕ, Bool, true, false, List, Option, None, Some, Result, Ok, Err, nat_le, if◌then◌else◌}
 use Rattle.sd_base.specs.Calls.{Keeps}
 use Rattle.sd_base.specs.Disk.{BlockState, DiskState, MayHold, Rose}
+use Rattle.sd_base.specs.Faults.{Grew}
 use Rattle.sd_base.specs.Shape.{disk_need, page_count}
 use Rattle.sd_base.specs.declared.fault.DevFault.{DevFault}
 use Rattle.sd_base.specs.declared.fault.DevFault.TheVariants.{Damaged, Failed, Lost, Stopped}
@@ -13,8 +14,10 @@ use Rattle.state_ids.specs.Blocks.{page_place}
 use Rattle.script_text.specs.declared.reply.Reply.{Reply}
 use Rattle.script_text.specs.declared.reply.Reply.TheVariants as says
 use Rattle.store_nodes.specs.declared.node.Node.{Node}
+use Rattle.store_nodes.specs.declared.node.Node.TheVariants.{Idle, Up, Down}
 use Rattle.store_nodes.specs.declared.store.Store.{Store}
 use Rattle.store_nodes.specs.Nodes.{IsPlace, IsStore, KeepsFramesBut, OthersStay, is_up, node_at}
+use Rattle.store_nodes.specs.Pages.{KeepsSeats}
 
 -- ---- what a store asks of its devices
 
@@ -88,6 +91,51 @@ pub record Writes (n : ℕ) (old new : Store) (b b' : ℕ → BlockState) : Type
   pub quiet : IsQuiet new b'
   pub besides : NarrowsBesides n old.shape b b'
 
+-- ---- what a call of one node leaves, in which others may have to give up pages
+
+-- the node works in a call of node n: it is n, or was up
+abbrev pub IsWorker : ℕ → List Node → ℕ → Type 0
+IsWorker n nodes m = (m ≡ n) ⊎ (IsPlace m × (is_up (node_at nodes m) ≡ true))
+
+-- No port has changed but those of the nodes that work in it, and no count has fallen.
+pub record KeepsPorts (n : ℕ) (nodes : List Node) (old new : DiskState) : Type 0 where
+  pub name : new.name ≡ old.name
+  pub size : new.size ≡ old.size
+  pub reach : new.reach ≡ old.reach
+  pub below : new.below ≡ old.below
+  pub orders : new.orders ≡ old.orders
+  pub live : (m : ℕ) → ¬ (IsWorker n nodes m) → new.live m ≡ old.live m
+  pub faults : (m : ℕ) → ¬ (IsWorker n nodes m) → new.faults m ≡ old.faults m
+  pub cuts : (m : ℕ) → ¬ (IsWorker n nodes m) → new.cuts m ≡ old.cuts m
+  pub grew : Grew old new
+
+-- Another node: one that isn't up is as it was, and one that is up stays up with the transactions that it had, or is down
+-- where the reply says that it stopped.
+abbrev pub StaysOrStops : Type 0 → Node → Node → Type 0
+StaysOrStops says Idle new = new ≡ Idle
+StaysOrStops says (Up c before) new = KeepsSeats (Up c before) new ⊎ (says × (new ≡ Down))
+StaysOrStops says Down new = new ≡ Down
+
+-- Whatever the devices hold, where the reply says of these nodes that they stopped: the store is ready still and has its
+-- shape, no ports have changed but those of node n and of nodes that were up, and each other node has its transactions
+-- still, or is down if the reply says so.
+pub record WorksWith (n : ℕ) (says : ℕ → Type 0) (old new : Store) (disk disk' vault vault' : DiskState) : Type 0 where
+  pub ready : IsReady new disk' vault'
+  pub shape : new.shape ≡ old.shape
+  pub keeps : KeepsPorts n old.nodes disk disk'
+  pub vault_keeps : KeepsPorts n old.nodes vault vault'
+  pub others : (m : ℕ) → IsPlace m → m ≢ n → StaysOrStops (says m) (node_at old.nodes m) (node_at new.nodes m)
+
+-- No block has a new outcome that is neither a page of the store nor of the ring of a node that works in it.
+abbrev pub NarrowsWith : ℕ → List Node → Shape → (ℕ → BlockState) → (ℕ → BlockState) → Type 0
+NarrowsWith n nodes s old new = (k : ℕ) (o : Option (List ℕ)) → ((x : PageNo) → x.0 < page_count s → k ≢ page_place s x) → ((m number : ℕ) → IsWorker n nodes m → k ≢ place (region_of s m) number) → MayHold new k o → MayHold old k o
+
+-- Of the disk's blocks: each uncovered write is one of a node that is up, to its own log, and no block has a new outcome
+-- but pages and those of the rings of the nodes that work in it.
+pub record WritesWith (n : ℕ) (old new : Store) (b b' : ℕ → BlockState) : Type 0 where
+  pub quiet : IsQuiet new b'
+  pub besides : NarrowsWith n old.nodes old.shape b b'
+
 -- ---- replies
 
 -- why a command is answered so: where the reply says that a node stopped, the count of its port rose. `NoMore` is no
@@ -109,6 +157,11 @@ abbrev pub IsStopReply : ℕ → Reply → Type 0
 IsStopReply n (says.Stopped m) = m.0 ≡ n
 IsStopReply n (says.Fault m) = m.0 ≡ n
 IsStopReply n reply = ⊥
+
+-- the result says so; one that was done says of no node that it stopped
+abbrev pub SaysStopOf : {T : Type 0} → Result T Reply → ℕ → Type 0
+SaysStopOf (Ok value) n = ⊥
+SaysStopOf (Err why) n = IsStopReply n why
 
 -- what a fault of a device call is answered, where the pages begin at this block
 abbrev pub reply_to : ℕ → DevFault → Reply

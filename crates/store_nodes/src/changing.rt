@@ -31,7 +31,7 @@ use txn_core::Change;
 impl Store {
     /// Changes a slot of a data page that the transaction's node has cached, where its log has room for
     /// it.
-    pub(crate) fn change<D: Disk, V: Disk>(
+    pub fn change<D: Disk, V: Disk>(
         &mut self,
         disk: &mut D,
         vault: &mut V,
@@ -79,7 +79,7 @@ impl Store {
 
     /// A free place of a map page that the node has cached comes into use by a group, where its log has
     /// space for it.
-    pub(crate) fn use_place<D: Disk, V: Disk>(
+    pub fn use_place<D: Disk, V: Disk>(
         &mut self,
         disk: &mut D,
         vault: &mut V,

@@ -6,13 +6,18 @@
 //! and `page_owner` for who may touch what; above it a command is a sequence of its calls.
 #![tactic(auto)]
 
+mod abort_updates;
 mod cached_pages;
 mod changing;
 mod checking;
+mod fetching;
+mod flushing;
 mod halting;
 mod node;
 mod starting;
 mod store;
+mod surrendering;
+mod taking;
 mod taking_back;
 mod transacting;
 

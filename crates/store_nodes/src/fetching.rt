@@ -1,0 +1,85 @@
+//! A page that is nobody's, or a node's own, comes into the node's cache.
+
+ghost use Rattle.std.specs.Prelude.{◌≡◌, ◌<◌, ◌≤◌, true, IsTrue, IsOk, IfErr, OnOk};
+ghost use Rattle.sd_base.specs.Calls.{Narrows};
+ghost use Rattle.sd_base.specs.Places.{map_of_data};
+ghost use Rattle.sd_base.specs.Shape.{page_count};
+ghost use Rattle.space_map.specs.Image.{MapImage};
+ghost use Rattle.private_log.specs.Reading.{contents};
+ghost use Rattle.page_owner.specs.Owners.{owner_of};
+ghost use Rattle.node_cache.specs.Room.{IsEntryOf, IsOpenTo};
+ghost use Rattle.record_machine.specs.Machine.{Machine};
+ghost use Rattle.record_machine.specs.Parts.{Take, one};
+ghost use Rattle.store_nodes.specs.declared.node.Node.TheVariants.{Down};
+ghost use Rattle.store_nodes.specs.Causes.{IsFaultOfPage, IsToldOfPages};
+ghost use Rattle.store_nodes.specs.Footprint.{MadeRoom};
+ghost use Rattle.store_nodes.specs.Known.{held_in};
+ghost use Rattle.store_nodes.specs.Nodes.{IsPlace, OnUp, is_up, node_at};
+ghost use Rattle.store_nodes.specs.Pages.{HasCached, KeepsWork, ShowsMap};
+ghost use Rattle.store_nodes.specs.Ports.{HasCause, IsQuiet, IsReady, UnlessStop, Works, Writes, says_stop};
+ghost use Rattle.store_nodes.specs.Shows.{IsShown};
+
+use crate::node::{Node, place};
+use crate::store::Store;
+use script_text::Reply;
+use sd_base::{Disk, NodeId, PageNo};
+use space_map::MapEntry;
+
+impl Store {
+    /// Makes a page that is nobody's, or a node's own, the node's, and cached.
+    ///
+    /// Where its block is lost or damaged, the page is parked at the node, and its transactions go on.
+    pub(crate) fn fetch<D: Disk, V: Disk>(
+        &mut self,
+        disk: &mut D,
+        vault: &mut V,
+        n: NodeId,
+        x: PageNo,
+        e: Option<MapEntry>,
+    ) -> Result<(), Reply>
+        requires node { IsPlace n.0 }
+        requires up { is_up (node_at self.old.nodes n.0) ≡ true }
+        requires page { x.0 < page_count self.old.shape }
+        requires entry { OnUp (node_at self.old.nodes n.0) (λ c seats. IsEntryOf self.old.shape self.old.shared.pool c x e) }
+        requires open { IsOpenTo n (owner_of self.old.shared.owners x.0) }
+        requires ready { IsReady self.old (D.state disk.old) (V.state vault.old) }
+        requires quiet { IsTrue D.told → IsQuiet self.old (D.state disk.old).block }
+        ensures works { Works n.0 self.old self.new (D.state disk.old) (D.state disk.new) (V.state vault.old) (V.state vault.new) }
+        ensures writes { IsTrue D.told → Writes n.0 self.old self.new (D.state disk.old).block (D.state disk.new).block }
+        ensures vault_outcomes { IsTrue V.told → Narrows (V.state vault.old).block (V.state vault.new).block }
+        ensures cause { IfErr result (λ why. HasCause why (D.state disk.old) (D.state disk.new)) }
+        ensures fault { IfErr result (IsFaultOfPage self.old.shape n.0 x) }
+        ensures told { IsTrue D.told → IfErr result (IsToldOfPages self.old.shape (contents (D.state disk.new).block)) }
+        ensures up { OnOk result (is_up (node_at self.new.nodes n.0) ≡ true) }
+        ensures down { IfErr result (λ why. says_stop why ≡ true → node_at self.new.nodes n.0 ≡ Down) }
+        ensures work { UnlessStop result (KeepsWork n.0 self.old self.new) }
+        ensures holders { UnlessStop result ((y : PageNo) → held_in self.new y ≡ held_in self.old y) }
+        ensures shows { OnOk result (IsTrue D.told → (m : Machine) → IsShown self.old (D.state disk.old).block m → IsShown self.new (D.state disk.new).block (one (Take x.0 n.0) m)) }
+        ensures stopped { IfErr result (λ why. IsTrue D.told → (m : Machine) → IsShown self.old (D.state disk.old).block m → says_stop why ≡ true) }
+        ensures map { OnOk result (self.old.shape.maps ≤ x.0 → (image : MapImage) → ShowsMap self.old n.0 (map_of_data self.old.shape x) image → ShowsMap self.new n.0 (map_of_data self.old.shape x) image) }
+        ensures cached { OnOk result (HasCached self.new n.0 x) }
+        ensures made_room { OnOk result (IsTrue D.told → MadeRoom n.0 x self.old self.new (D.state disk.old).block (D.state disk.new).block) }
+        ensures hit { HasCached self.old n.0 x → (IsOk result) × (self.new ≡ self.old) × (disk.new ≡ disk.old) × (vault.new ≡ vault.old) }
+    {
+        let fault = match &mut self.nodes[place(n)] {
+            Node::Up(cache, _seats) => {
+                let shared = &mut self.shared;
+                let done = cache.fetch(
+                    disk,
+                    &self.shape,
+                    &mut shared.pool,
+                    &mut shared.owners,
+                    x,
+                    e,
+                );
+                cache.law_of_pages();
+                match done {
+                    Ok(()) => return Ok(()),
+                    Err(fault) => fault,
+                }
+            }
+            Node::Idle | Node::Down => unreachable!(),
+        };
+        Err(self.give_up(disk, vault, n, fault))
+    }
+}
