@@ -1,0 +1,6 @@
+pub mod Answering
+pub mod Changing
+pub mod AtHand
+pub mod Taking
+pub mod Reasons
+pub mod Faults
