@@ -12,10 +12,10 @@ use Rattle.log_record.specs.declared.record.LogRecord.{LogRecord}
 use Rattle.compensation.specs.Finding.{record_at}
 use Rattle.record_machine.specs.Machine.{Deed, Machine, Write, deeds_of, home, newest_of, overlaid, owed, put, seen, without_newest, writes_of}
 use Rattle.record_machine.specs.Parts.{Back, Seal, dos, one, taken_back}
-use Rattle.record_machine.specs.Meaning.{AreLocked, AreLogged, AreLogs, ArePages, IsChangedAt, IsLogged, IsPresent, Plain, Tells, first_record, has_written, logged, with_page, writes_key}
+use Rattle.record_machine.specs.Meaning.{AreInOrder, AreLocked, AreLogged, AreLogs, ArePages, IsChangedAt, IsLogged, IsPresent, Plain, Tells, first_record, has_written, logged, with_page, writes_key}
 use Rattle.record_machine.proofs.Deeds.{logged-longer, writes_other}
 use Rattle.record_machine.proofs.DeedSteps.{tail_longer}
-use Rattle.record_machine.proofs.Newest.{IsNewest, all_rest, at_newest, filter_rest, length_rest, logged_newest, logged_rest, newest_is, no_keys, no_writes, none_newest, own_seat, seen_before, seen_rest, some_write, written_it, written_less, written_rest, writes_rest}
+use Rattle.record_machine.proofs.Newest.{IsNewest, all_rest, at_newest, filter_rest, length_rest, logged_newest, logged_rest, newest_is, no_keys, no_writes, none_newest, ordered_rest, own_seat, seen_before, seen_rest, some_write, written_it, written_less, written_rest, writes_rest}
 use Rattle.record_machine.proofs.PageSteps.{pages_written}
 use Rattle.record_machine.proofs.Put.{at_or_off, put_same}
 use Rattle.record_machine.proofs.RestSteps.{pages_rest}
@@ -102,6 +102,9 @@ pub logs_back : (p : Plain) (m : Machine) (t : TxnId) (d : Deed) (w : Write) (re
 logs_back p m t d w rec v is was = record {
   tail = λ n. tail_longer t.node.0 p m rec n (was.tail n);
   deeds = λ n. by (n == t.node.0) n refl;
+  rising = λ n. at_or_off AreInOrder t.node.0 (without_newest t.seat (m.pending t.node.0)) m.pending n
+      (λ node. ordered_rest t.seat (m.pending t.node.0) d (stands m t d is) (was.rising t.node.0))
+      (λ other. was.rising n);
   homes = λ u. at_or_off (λ ds. All (λ e. IfSome e.write (λ x. home m x.key ≡ Some x.page)) ds) t.node.0 (without_newest t.seat (m.pending t.node.0)) m.pending u.node.0
       (λ node. all_rest t.seat (λ e. IfSome e.write (λ x. home m x.key ≡ Some x.page)) (m.pending t.node.0) d (stands m t d is) (was.homes t))
       (λ other. was.homes u);

@@ -12,9 +12,10 @@ use Rattle.recovery_theory.specs.Effect.{OpenUpdate, left_of, of_slot}
 use Rattle.recovery_theory.specs.History.{History}
 use Rattle.recovery_theory.specs.Standing.{with_updates}
 use Rattle.recovery_theory.specs.Steps.{IsPlaceToCut}
-use Rattle.record_machine.specs.Cuts.{Survives, TellsDeeds, TellsLog, seat_of}
+use Rattle.record_machine.specs.Cuts.{Survives, TellsLog, seat_of}
 use Rattle.record_machine.specs.Machine.{Deed, Machine, Write, home, is_begin_in, is_busy, overlaid, put}
 use Rattle.record_machine.specs.Meaning.{Plain, writes_key}
+use Rattle.record_machine.specs.Recoverable.{TellsDeeds}
 use Rattle.record_machine.proofs.Deeds.{logged-same}
 use Rattle.record_machine.proofs.StopPages.{deeds_now}
 use Rattle.record_machine.proofs.ToldNow.{AreOpened}
@@ -46,6 +47,7 @@ module _ (m m' : Machine) (begun begun' : ℕ → ℕ → ℕ) (j first : ℕ) (
       → TellsLog m' begun' j first recs ds
   told_still same home_kept home_back lock_kept busy_kept begun_kept = record {
     deeds = logged-same first recs (λ seat. m.records) (λ seat. m'.records) ds tells.deeds same;
+    rising = tells.rising;
     homes = λ i d low. at_home (slice_index_or ds i d).write (tells.homes i d low);
     locked = λ seat key any. lock_kept seat key any (tells.locked seat key any);
     opened = tells.opened;

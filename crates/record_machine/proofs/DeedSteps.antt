@@ -1,10 +1,11 @@
 -- The machine after one deed more.
-use Rattle.std.specs.Prelude.{◌≡◌, ◌==◌, ◌||◌, ◌+◌, ◌++◌, ◌∷◌, [], ℕ, Bool, true, false, List, Option, Some, None, All, IfSome, length, refl}
+use Rattle.std.specs.Prelude.{◌≡◌, ◌==◌, ◌||◌, ◌+◌, ◌<◌, ◌++◌, ◌∷◌, [], ℕ, Bool, true, false, List, Option, Some, None, All, IfSome, length, refl}
 use Rattle.std.specs.List.{list_any}
 use Rattle.std.proofs.Common.{arith, ap, subst, sym, ◌∙◌}
 use Rattle.std.proofs.lemmas.Bool.{eq-eqb, eqb-true}
 use Rattle.std.proofs.lemmas.List.{length-append}
 use Rattle.std.proofs.lemmas.List.Elements.{All-push}
+use Rattle.std.proofs.lemmas.List.Quantifiers.{all_pairs_push}
 use Rattle.sd_base.specs.declared.names.Key.{Key}
 use Rattle.sd_base.specs.declared.names.TxnId.{TxnId}
 use Rattle.log_record.specs.declared.record.LogRecord.{LogRecord}
@@ -15,8 +16,8 @@ use Rattle.record_locks.specs.declared.mode.Mode.TheVariants as locks
 use Rattle.record_locks.specs.Held.{mode_of}
 use Rattle.record_machine.specs.Machine.{Deed, Machine, Write, home, overlaid, put, seen}
 use Rattle.record_machine.specs.Parts.{done_by}
-use Rattle.record_machine.specs.Meaning.{AreLocked, AreLogged, AreLogs, IsLogged, IsPresent, Plain, Tells, first_record, has_written, logged, writes_key}
-use Rattle.record_machine.proofs.Deeds.{logged-longer, logged-push, overlaid-push, written-push, written_is, written_not, writes_none}
+use Rattle.record_machine.specs.Meaning.{AreInOrder, AreLocked, AreLogged, AreLogs, IsLogged, IsPresent, Plain, Tells, first_record, has_written, logged, writes_key}
+use Rattle.record_machine.proofs.Deeds.{logged-below, logged-longer, logged-push, overlaid-push, written-push, written_is, written_not, writes_none}
 use Rattle.record_machine.proofs.Put.{at_or_off, put_same}
 
 -- a transaction is its node and its seat
@@ -120,6 +121,10 @@ pub logs_done : (t : TxnId) (w : Option Write) (m : Machine) (p : Plain) (rec : 
 logs_done t w m p rec began tells here was = record {
   tail = λ n. tail_longer t.node.0 p m rec n (was.tail n);
   deeds = λ n. by_deeds n;
+  rising = λ n. at_or_off AreInOrder t.node.0 (m.pending t.node.0 ++ deed t w m ∷ []) m.pending n
+      (λ same. all_pairs_push (λ d e. d.number < e.number) (m.pending t.node.0) (deed t w m) (was.rising t.node.0)
+      (λ k d low. (let below = logged-below (first_record m t.node.0) (p.live t.node.0) (λ seat. m.records) (m.pending t.node.0) (was.deeds t.node.0) k d low in let end = was.tail t.node.0 in omega (arith, below, end))))
+      (λ other. was.rising n);
   homes = λ u. at_or_off (λ ds. All (λ d. IfSome d.write (λ x. home m x.key ≡ Some x.page)) ds) t.node.0 (m.pending t.node.0 ++ deed t w m ∷ []) m.pending u.node.0
       (λ same. All-push (λ d. IfSome d.write (λ x. home m x.key ≡ Some x.page)) (m.pending t.node.0) (deed t w m) (was.homes t) here)
       (λ other. was.homes u);

@@ -104,6 +104,7 @@ module _ (dirty : ℕ → Bool) (h : History) (p : Plain) (m : Machine) (t : Txn
     mode = λ j. refl;
     loose_here = put_same t.node.0 (m.loose t.node.0 ++ before t.node.0 [] None m ∷ []) m.loose t.node.0 refl;
     loose_other = λ j d. put_other t.node.0 (m.loose t.node.0 ++ before t.node.0 [] None m ∷ []) m.loose j d;
+    locks = refl;
     pending_other = λ j d. put_other t.node.0 (m.pending t.node.0 ++ record { number = m.tail t.node.0; seat = t.seat; write = None } ∷ []) m.pending j d;
     tail_other = λ j d. put_other t.node.0 (m.tail t.node.0 + 1) m.tail j d;
     number = refl;
@@ -216,6 +217,7 @@ changed_survives dirty h p m t w rec op v s up busy is_home held mode tells chan
         mode = λ j. refl;
         loose_here = put_same t.node.0 (m.loose t.node.0 ++ before t.node.0 (w.page ∷ []) None m ∷ []) m.loose t.node.0 refl;
         loose_other = λ j d. put_other t.node.0 (m.loose t.node.0 ++ before t.node.0 (w.page ∷ []) None m ∷ []) m.loose j d;
+        locks = refl;
         pending_other = λ j e. put_other t.node.0 (m.pending t.node.0 ++ d ∷ []) m.pending j e;
         tail_other = λ j d. put_other t.node.0 (m.tail t.node.0 + 1) m.tail j d;
         number = refl;
@@ -253,6 +255,7 @@ back_survives dirty h p m t d w rec next op v s up busy newest write low high he
             mode = λ j. refl;
             loose_here = put_same t.node.0 (m.loose t.node.0 ++ before t.node.0 (w.page ∷ []) None m ∷ []) m.loose t.node.0 refl;
             loose_other = λ j d. put_other t.node.0 (m.loose t.node.0 ++ before t.node.0 (w.page ∷ []) None m ∷ []) m.loose j d;
+            locks = refl;
             pending_other = λ j e. put_other t.node.0 (without_newest t.seat (m.pending t.node.0)) m.pending j e;
             tail_other = λ j d. put_other t.node.0 (m.tail t.node.0 + 1) m.tail j d;
             number = refl;

@@ -1,13 +1,14 @@
 -- What transactions see after one deed more, and after the deeds of one of them are gone.
-use Rattle.std.specs.Prelude.{◌≡◌, ◌≢◌, ◌==◌, ◌||◌, ◌++◌, ◌∷◌, [], ℕ, Bool, true, false, not, List, Option, Some, None, IfSome, filter, refl}
+use Rattle.std.specs.Prelude.{◌≡◌, ◌≢◌, ◌==◌, ◌||◌, ◌+◌, ◌<◌, ◌++◌, ◌∷◌, [], ℕ, Bool, true, false, not, List, Option, Some, None, All, IfSome, filter, length, refl}
 use Rattle.std.specs.List.{list_any}
 use Rattle.std.proofs.Common.{arith, ap, subst, sym, ◌∙◌}
 use Rattle.std.proofs.lemmas.Bool.{eq-eqb}
 use Rattle.std.proofs.lemmas.Bool.Decides.{nat_tests}
+use Rattle.std.proofs.lemmas.List.Elements.{All-cons, All-nil}
 use Rattle.std.proofs.lemmas.List.Folds.{list_any-append}
 use Rattle.std.proofs.lemmas.List.Sums.{fold-append}
 use Rattle.log_record.specs.declared.record.LogRecord.{LogRecord}
-use Rattle.compensation.proofs.LogRecords.{record_at-push}
+use Rattle.compensation.proofs.LogRecords.{below_end, record_at-push}
 use Rattle.record_machine.specs.Machine.{Deed, Write, overlaid, written}
 use Rattle.record_machine.specs.Meaning.{AreLogged, IsLogged, Tells, after, writes_key}
 
@@ -68,7 +69,12 @@ pub logged-longer : (first : ℕ) (recs : List LogRecord) (x : LogRecord) (value
 logged-longer first recs x value [] all = tt
 logged-longer first recs x value (d ∷ ds) all = (record { rec = all.0.rec; there = record_at-push first recs x d.number all.0.rec all.0.there; began = all.0.began; wrote = all.0.wrote }, logged-longer first recs x (after d value) ds all.1)
 
--- and one deed more does where it stands behind them
+-- each has a number of the log
+pub logged-below : (first : ℕ) (recs : List LogRecord) (value : ℕ → ℕ → Option (List ℕ)) (ds : List Deed) → AreLogged first recs value ds → All (λ d. d.number < first + length recs) ds
+logged-below first recs value [] all = All-nil (λ d. d.number < first + length recs)
+logged-below first recs value (d ∷ ds) all = All-cons (λ e. e.number < first + length recs) d ds (below_end first recs d.number all.0.rec all.0.there) (logged-below first recs (after d value) ds all.1)
+
+-- and one deed more stands there behind them
 pub logged-push : (first : ℕ) (recs : List LogRecord) (value : ℕ → ℕ → Option (List ℕ)) (ds : List Deed) (d : Deed) → AreLogged first recs value ds → IsLogged first recs (λ seat key. overlaid seat key (value seat key) ds) d → AreLogged first recs value (ds ++ d ∷ [])
 logged-push first recs value [] d all last = (last, tt)
 logged-push first recs value (e ∷ ds) d all last = (all.0, logged-push first recs (after e value) ds d all.1 last)

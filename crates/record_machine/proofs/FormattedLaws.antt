@@ -44,7 +44,7 @@ means_formatted s valid = record {
     present = λ key x is. let never : None ≡ Some x = sym (no_home s key) ∙ is in cc;
     absent = λ key none. refl;
   };
-  logs = record { tail = λ n. refl; deeds = λ n. tt; homes = λ t k d low. absurd (omega (arith, low)) };
+  logs = record { tail = λ n. refl; deeds = λ n. tt; rising = λ n i j d lt low. absurd (omega (arith, low)); homes = λ t k d low. absurd (omega (arith, low)) };
   locked = record { apart = IsCompatible-empty; written = λ t key is. cc };
   tops = λ x low high. let none = sum_by-le (λ n. 0) 0 (range_with_len 1 s.nodes) (λ k d within. omega arith) in let birth = valid.birth in omega (arith, none, birth);
 }

@@ -101,7 +101,7 @@ pages_still p m held was = record {
 }
 
 pub logs_still : (p : Plain) (m : Machine) (held : Held) → AreLogs p m → AreLogs p (record m { locks = held })
-logs_still p m held was = record { tail = was.tail; deeds = was.deeds; homes = was.homes }
+logs_still p m held was = record { tail = was.tail; deeds = was.deeds; rising = was.rising; homes = was.homes }
 
 -- nor on who holds the pages
 pub means_taken : (p : Plain) (m : Machine) (x n : ℕ) → Means p m → Means p (one (Take x n) m)
@@ -119,7 +119,7 @@ means_taken p m x n was = record {
     present = was.pages.present;
     absent = was.pages.absent;
   };
-  logs = record { tail = was.logs.tail; deeds = was.logs.deeds; homes = was.logs.homes };
+  logs = record { tail = was.logs.tail; deeds = was.logs.deeds; rising = was.logs.rising; homes = was.logs.homes };
   locked = record { apart = was.locked.apart; written = was.locked.written };
   tops = was.tops;
 }
@@ -140,7 +140,7 @@ means_started p m n was = record {
     present = was.pages.present;
     absent = was.pages.absent;
   };
-  logs = record { tail = was.logs.tail; deeds = was.logs.deeds; homes = was.logs.homes };
+  logs = record { tail = was.logs.tail; deeds = was.logs.deeds; rising = was.logs.rising; homes = was.logs.homes };
   locked = record { apart = was.locked.apart; written = was.locked.written };
   tops = was.tops;
 }

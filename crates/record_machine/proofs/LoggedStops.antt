@@ -9,6 +9,7 @@ use Rattle.log_record.specs.declared.record.LogRecord.{LogRecord}
 use Rattle.space_map.specs.declared.map_entry.MapEntry.{MapEntry}
 use Rattle.space_map.specs.Image.{MapImage}
 use Rattle.space_map.specs.PageImage.{PageImage, ident_of, map_page}
+use Rattle.record_locks.specs.Held.{mode_of}
 use Rattle.recovery_theory.specs.Effect.{Transaction, step_on, steps_on}
 use Rattle.recovery_theory.specs.History.{History, entry_now, image_now}
 use Rattle.recovery_theory.specs.Pages.{is_used}
@@ -37,6 +38,7 @@ pub record MachineGrows (m m' : Machine) (n : ℕ) (c : LooseChange) : Type 0 wh
   pub mode : (j : ℕ) → m'.mode j ≡ m.mode j
   pub loose_here : m'.loose n ≡ m.loose n ++ c ∷ []
   pub loose_other : (j : ℕ) → j ≢ n → m'.loose j ≡ m.loose j
+  pub locks : m'.locks ≡ m.locks
   pub pending_other : (j : ℕ) → j ≢ n → m'.pending j ≡ m.pending j
   pub tail_other : (j : ℕ) → j ≢ n → m'.tail j ≡ m.tail j
   pub number : c.number ≡ m.tail n
@@ -209,6 +211,8 @@ module _ (h : History) (m m' : Machine) (begun begun' : ℕ → ℕ → ℕ) (n 
     back = λ j k at. back j k at (cases_eq j n);
     used = used_now;
     resting = λ j rest. resting j (sym (grows.mode j) ∙ rest) (cases_eq j n);
+    owners = λ key t mode had rest. was.owners key t mode (ap (λ l. mode_of l key t) (sym grows.locks) ∙ had) (sym (grows.mode t.node.0) ∙ rest);
+    nodes = λ j used. (let z = was.nodes j (λ rest. used (grows.mode j ∙ rest)) in (z.0, subst (λ s. j ≤ s.nodes) (sym grows.shape) z.1));
   }
     where
       enough : (j : ℕ) → (j ≡ n) ⊎ (j ≢ n) → length (h'.live j) ≤ h.stable j + length (m'.loose j)

@@ -1,15 +1,16 @@
 -- The newest write of a seat, and the deeds without it.
-use Rattle.std.specs.Prelude.{◌≡◌, ◌≢◌, ◌==◌, ◌&&◌, ◌||◌, ◌⊎◌, ◌+◌, ◌++◌, ◌∷◌, [], ℕ, Bool, true, false, cond, not, List, Option, Some, None, All, count_by, filter, is_some, length, refl}
+use Rattle.std.specs.Prelude.{◌≡◌, ◌≢◌, ◌==◌, ◌&&◌, ◌||◌, ◌⊎◌, ◌+◌, ◌<◌, ◌++◌, ◌∷◌, [], ℕ, suc, Bool, true, false, cond, not, List, Option, Some, None, All, count_by, filter, is_some, length, refl}
 use Rattle.std.specs.List.{list_any}
 use Rattle.std.proofs.Common.{arith, inl, inr, ap, append-nil, subst, sym, ◌∙◌}
 use Rattle.std.proofs.lemmas.Bool.{and_parts, cases_eq, eq-eqb, eqb-true, not-true, or_parts}
 use Rattle.std.proofs.lemmas.List.{length-append}
 use Rattle.std.proofs.lemmas.List.Elements.{All-cons, All-head, All-tail, filter-append}
 use Rattle.std.proofs.lemmas.List.Folds.{list_any-append}
+use Rattle.std.proofs.lemmas.List.Kept.{AllPairs-cons}
 use Rattle.std.proofs.lemmas.List.Sums.{fold-append, sum_by-append, sum_by-cons}
 use Rattle.log_record.specs.declared.record.LogRecord.{LogRecord}
 use Rattle.record_machine.specs.Machine.{Deed, Write, is_newest_in, is_write_in, newest_in, overlaid, without_newest, written}
-use Rattle.record_machine.specs.Meaning.{AreLogged, IsLogged, after, writes_key}
+use Rattle.record_machine.specs.Meaning.{AreInOrder, AreLogged, IsLogged, after, writes_key}
 use Rattle.record_machine.proofs.Deeds.{logged-same, not_seat, overlaid_not, writes_none, written_not}
 
 -- where the newest write stands among the deeds
@@ -162,6 +163,23 @@ all_rest seat P ds d it all = subst (All P) (sym it.rest) (cut it.before (subst 
     cut : (es : List Deed) → All P (es ++ d ∷ it.behind) → All P (es ++ it.behind)
     cut [] all = All-tail P d it.behind all
     cut (e ∷ es) all = All-cons P e (es ++ it.behind) (All-head P e (es ++ d ∷ it.behind) all) (cut es (All-tail P e (es ++ d ∷ it.behind) all))
+
+-- those that are left are in their order
+pub ordered_rest : (seat : ℕ) (ds : List Deed) (d : Deed) → IsNewest seat ds d → AreInOrder ds → AreInOrder (without_newest seat ds)
+ordered_rest seat ds d it rising = subst AreInOrder (sym it.rest) (cut it.before (subst AreInOrder it.whole rising))
+  where
+    tail : (e : Deed) (es : List Deed) → AreInOrder (e ∷ es) → AreInOrder es
+    tail e es rising = λ i j x lt low. rising (suc i) (suc j) x (omega arith) (omega arith)
+
+    cut : (es : List Deed) → AreInOrder (es ++ d ∷ it.behind) → AreInOrder (es ++ it.behind)
+    cut [] rising = tail d it.behind rising
+    cut (e ∷ es) rising = AllPairs-cons (λ a b. a.number < b.number) e (es ++ it.behind)
+        (skip es (λ j x low. rising 0 (suc j) x (omega arith) (omega arith)))
+        (cut es (tail e (es ++ d ∷ it.behind) rising))
+      where
+        skip : (fs : List Deed) → All (λ b. e.number < b.number) (fs ++ d ∷ it.behind) → All (λ b. e.number < b.number) (fs ++ it.behind)
+        skip [] all = All-tail (λ b. e.number < b.number) d it.behind all
+        skip (f ∷ fs) all = All-cons (λ b. e.number < b.number) f (fs ++ it.behind) (All-head (λ b. e.number < b.number) f (fs ++ d ∷ it.behind) all) (skip fs (All-tail (λ b. e.number < b.number) f (fs ++ d ∷ it.behind) all))
 
 pub at_newest : (seat : ℕ) (P : Deed → Type 0) (ds : List Deed) (d : Deed) → IsNewest seat ds d → All P ds → P d
 at_newest seat P ds d it all = cut it.before (subst (All P) it.whole all)

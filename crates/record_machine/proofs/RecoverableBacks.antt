@@ -14,6 +14,7 @@ use Rattle.record_machine.specs.Machine as machine
 use Rattle.record_machine.specs.Machine.{Deed, Machine, Write, deeds_of, home, is_begin_in, is_busy, is_write_in, newest_of, without_newest, writes_of}
 use Rattle.record_machine.specs.Meaning.{Means, Plain, logged, with_page}
 use Rattle.record_machine.specs.Parts as part
+use Rattle.record_machine.proofs.Put.{put_true}
 use Rattle.record_machine.proofs.BackSteps.{back_home, back_is, back_others, back_writes}
 use Rattle.record_machine.proofs.DeedSteps.{one_txn}
 use Rattle.record_machine.proofs.Homes.{home_is_data}
@@ -36,7 +37,7 @@ use Rattle.recovery_theory.proofs.Room.{logged_keeps_room}
 use Rattle.recovery_theory.proofs.RuledLogs.{both_ways}
 use Rattle.recovery_theory.proofs.KeptRecords.{compensation_keeps}
 use Rattle.record_machine.proofs.OpenSeats.{open_then}
-use Rattle.record_machine.specs.Recoverable.{HasSeat, IsKnown, Recoverable, TellsSeat}
+use Rattle.record_machine.specs.Recoverable.{HasSeat, IsKeptBy, IsKnown, Recoverable, TellsSeat}
 use Rattle.record_machine.specs.RecoverableParts.{BackRecoverable}
 use Rattle.record_machine.proofs.LoggedLater.{live_more, longer}
 use Rattle.record_machine.proofs.ChangedPages.{image_same, pages_now, rolled_now, stored_now}
@@ -234,6 +235,7 @@ module _ (dirty : ℕ → Bool) (h : History) (p : Plain) (m : Machine) (t : Txn
     opens = opens;
     below = λ u up k. longer n rec h.devices.first h.live u.node.0 (r.begun u.node.0 u.seat) (r.below u up (known u k));
     idle = λ u rest k. r.idle u rest (known u k);
+    holder = put_true dirty w.page (λ y. IsKeptBy m' y (h.guard y)) (subst (IsKeptBy m' w.page) (sym guarded) (inl (held, λ rest. r.idle t rest (inl busy)))) r.holder;
     apart = λ a b x y. r.apart a b (known a x) (known b y);
     locked = r.locked;
     locker = r.locker;

@@ -189,6 +189,7 @@ module _ (dirty : ℕ → Bool) (h : History) (p : Plain) (m : Machine) (t : Txn
     locked = locked;
     locker = locker;
     idle = λ u rest k. idle u rest k (own_or_not u);
+    holder = r.holder;
   }
     where
       idle : (u : TxnId) → m.mode u.node.0 ≡ Idle → IsKnown m' u → (u ≡ t) ⊎ ((u.node.0 ≢ t.node.0) ⊎ (u.seat ≢ t.seat)) → ⊥

@@ -21,6 +21,7 @@ use Rattle.sd_base.specs.Places.{group_of, map_of_key, page_of_place, slot_of_ke
 use Rattle.record_machine.specs.Machine as machine
 use Rattle.record_machine.specs.Machine.{Deed, Machine, Up, Write, home, is_busy, seen}
 use Rattle.record_machine.specs.Meaning.{IsChangedAt, Means, Plain, Tells}
+use Rattle.record_machine.proofs.Put.{put_true}
 use Rattle.record_machine.proofs.Homes.{HasPlace, home_is_data, place_of as place_of_key}
 use Rattle.record_machine.proofs.LockSteps.{seen_locked}
 use Rattle.record_locks.specs.declared.mode.Mode.TheVariants as locks
@@ -43,7 +44,7 @@ use Rattle.record_machine.proofs.OpenSeats.{open_then}
 use Rattle.record_locks.specs.Held.{mode_of}
 use Rattle.recovery_theory.specs.Room.{HasRoom}
 use Rattle.recovery_theory.specs.Rules.{RuleOf}
-use Rattle.record_machine.specs.Recoverable.{HasSeat, IsKnown, Recoverable, TellsSeat}
+use Rattle.record_machine.specs.Recoverable.{HasSeat, IsKeptBy, IsKnown, Recoverable, TellsSeat}
 use Rattle.record_machine.specs.RecoverableParts.{ChangedRecoverable}
 use Rattle.record_machine.proofs.LoggedLater.{longer}
 use Rattle.record_machine.proofs.ChangedPages.{apply_data, image_same, pages_now, rolled_now, stored_now}
@@ -276,6 +277,7 @@ module _ (dirty : ℕ → Bool) (h : History) (p : Plain) (m : Machine) (t : Txn
     opens = opens;
     below = below;
     idle = λ u rest k. r.idle u rest (known u k);
+    holder = put_true dirty w.page (λ y. IsKeptBy m' y (h.guard y)) (subst (IsKeptBy m' w.page) (sym guarded) (inl (held, λ rest. r.idle t rest (inl busy)))) r.holder;
     apart = λ a b x y. r.apart a b (known a x) (known b y);
     locked = r.locked;
     locker = r.locker;

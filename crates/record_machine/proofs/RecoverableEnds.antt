@@ -247,6 +247,7 @@ module _ (dirty : ℕ → Bool) (h : History) (p : Plain) (m : Machine) (t : Txn
     opens = opens;
     below = λ u up k. longer t.node.0 rec h.devices.first h.live u.node.0 (r.begun u.node.0 u.seat) (r.below u up (known u k));
     idle = λ u rest k. r.idle u rest (known u k);
+    holder = r.holder;
     apart = λ a b x y. r.apart a b (known a x) (known b y);
     locked = r.locked;
     locker = r.locker;

@@ -40,6 +40,7 @@ formatted_recoverable s = record {
   opens = λ k txn us e. absurd cc;
   below = λ t up k. absurd (unknown s t k);
   idle = λ t rest k. unknown s t k;
+  holder = λ x e. absurd cc;
   apart = λ t u k l. absurd (unknown s t k);
   locked = λ t key x is mode. absurd (unknown s t (inr (key, mode)));
   locker = λ o key x is e. absurd cc;

@@ -50,6 +50,7 @@ relocked dirty h p m held l r free known locked locker = record {
   opens = λ k txn us e. let z = r.opens k txn us e in record { who = z.who; node = z.node; busy = z.busy; begins = z.begins };
   below = λ u up k. r.below u up (known u k);
   idle = λ u rest k. r.idle u rest (known u k);
+  holder = r.holder;
   apart = λ a b x y. r.apart a b (known a x) (known b y);
   locked = locked;
   locker = locker;

@@ -3,7 +3,7 @@ use Rattle.std.proofs.Common.{◌≡◌, ◌≢◌, ◌⊎◌, inl, inr, ℕ, �
 use Rattle.std.proofs.lemmas.Bool.{cases_eq}
 use Rattle.sd_base.specs.declared.names.TxnId.{TxnId}
 use Rattle.record_machine.specs.Machine as machine
-use Rattle.record_machine.specs.Machine.{Idle, Machine, Up}
+use Rattle.record_machine.specs.Machine.{Down, Idle, Machine, Up}
 use Rattle.space_map.specs.PageImage.{PageImage}
 use Rattle.recovery_theory.specs.History.{History, IsCut, entry_now, image_now}
 use Rattle.recovery_theory.specs.Steps.{on_disk, passed, set_at}
@@ -12,11 +12,12 @@ use Rattle.recovery_theory.proofs.Headroom.{force_keeps_rising, pass_keeps_risin
 use Rattle.recovery_theory.proofs.KeptRecords.{force_keeps, pass_keeps, write_keeps}
 use Rattle.recovery_theory.proofs.PageLaws.{in_life_from-same}
 use Rattle.recovery_theory.proofs.SlotChanges.{birth_le}
-use Rattle.record_machine.proofs.Put.{put_other}
+use Rattle.record_machine.proofs.Put.{at_or_off, put_other}
 use Rattle.sd_base.specs.Places.{page_of_place}
 use Rattle.sd_base.specs.Shape.{pages_per_map}
 use Rattle.record_machine.specs.Meaning.{Plain}
-use Rattle.record_machine.specs.Recoverable.{IsKnown, IsStored, Recoverable}
+use Rattle.record_machine.specs.Recoverable.{IsKeptBy, IsKnown, IsStored, Recoverable}
+use Rattle.record_machine.specs.Parts.{Start, Take, one}
 use Rattle.record_machine.specs.RecoverableParts.{StartedRecoverable, ForcedRecoverable, TakenRecoverable, WrittenRecoverable}
 
 -- a page that passed is the same page
@@ -62,11 +63,16 @@ taken_recoverable dirty h p m x n r clean map_held =
       opens = λ k txn us e. let z = r.opens k txn us e in record { who = z.who; node = z.node; busy = z.busy; begins = z.begins };
       below = r.below;
       idle = r.idle;
+      holder = λ y e. holder y e (cases_eq y x);
       apart = r.apart;
       locked = r.locked;
       locker = r.locker;
     }
   where
+    holder : (y : ℕ) → dirty y ≡ true → (y ≡ x) ⊎ (y ≢ x) → IsKeptBy (one (Take x n) m) y (set_at x n h.guard y)
+    holder y e (inl z) = let never : true ≡ false = sym e ∙ (ap dirty z ∙ clean) in absurd cc
+    holder y e (inr d) = rw (ne_eqb y x d) (r.holder y e)
+
     guard : (y k : ℕ) → machine.put x (Some n) m.hold y ≡ Some k → (y ≡ x) ⊎ (y ≢ x) → set_at x n h.guard y ≡ k
     guard y k e (inl z) =
         let e' : Some n ≡ Some k = rw (eq-eqb y x z) at e in
@@ -90,6 +96,7 @@ forced_recoverable dirty h p m n k r low high = record {
   opens = λ k txn us e. let z = r.opens k txn us e in record { who = z.who; node = z.node; busy = z.busy; begins = z.begins };
   below = r.below;
   idle = r.idle;
+  holder = r.holder;
   apart = r.apart;
   locked = r.locked;
   locker = r.locker;
@@ -126,6 +133,7 @@ written_recoverable dirty h p m x r sure = record {
   opens = λ k txn us e. let z = r.opens k txn us e in record { who = z.who; node = z.node; busy = z.busy; begins = z.begins };
   below = r.below;
   idle = r.idle;
+  holder = λ y. at_or_off (λ b. b ≡ true → IsKeptBy m y (h.guard y)) x false dirty y (λ same e. absurd cc) (λ off e. r.holder y e);
   apart = r.apart;
   locked = r.locked;
   locker = r.locker;
@@ -158,8 +166,13 @@ started_recoverable dirty h p m n r rest = record {
   locked = r.locked;
   locker = r.locker;
   idle = λ t still k. idle t still k (cases_eq t.node.0 n);
+  holder = λ x e. up (h.guard x) (r.holder x e);
 }
   where
+    up : {x : ℕ} (g : ℕ) → IsKeptBy m x g → IsKeptBy (one (Start n) m) x g
+    up g (inl z) = inl (z.0, at_or_off (λ mode. mode ≢ Idle) n Up m.mode g (λ same e. absurd cc) (λ off. z.1))
+    up g (inr z) = inr (z.0, put_other n Up m.mode g (λ same. let never : Idle ≡ Down = sym rest ∙ (ap m.mode (sym same) ∙ z.1) in absurd cc) ∙ z.1)
+
     below : (t : TxnId) → machine.put n Up m.mode t.node.0 ≡ Up → IsKnown m t → (t.node.0 ≡ n) ⊎ (t.node.0 ≢ n) → r.begun t.node.0 t.seat < h.devices.first t.node.0 + length (h.live t.node.0)
     below t up k (inl e) = absurd (r.idle t (ap m.mode e ∙ rest) k)
     below t up k (inr d) = r.below t (sym (put_other n Up m.mode t.node.0 d) ∙ up) k

@@ -21,9 +21,10 @@ use Rattle.record_locks.specs.Order.{Lock, lock}
 use Rattle.record_locks.proofs.HeldLaws.{IsLeast-least_where}
 use Rattle.sd_base.specs.Places.{group_of, map_of_key, page_of_place}
 use Rattle.record_machine.specs.Machine as machine
-use Rattle.record_machine.specs.Machine.{Machine, free_place, home, is_busy}
+use Rattle.record_machine.specs.Machine.{Idle, Machine, free_place, home, is_busy}
 use Rattle.record_machine.specs.Meaning.{Means, Plain, logged, with_map}
 use Rattle.record_machine.specs.Parts as part
+use Rattle.record_machine.proofs.Put.{put_true}
 use Rattle.record_machine.proofs.Homes.{free_is_no_home, none_passes, position_kept}
 use Rattle.record_machine.proofs.UseSteps.{home_new}
 use Rattle.space_map.specs.PageImage.{PageImage, changed, ident_of}
@@ -46,7 +47,7 @@ use Rattle.recovery_theory.proofs.Room.{logged_keeps_room}
 use Rattle.recovery_theory.proofs.KeptRecords.{locks_keep}
 use Rattle.recovery_theory.proofs.Headroom.{logged_keeps_rising}
 use Rattle.record_machine.proofs.OpenSeats.{open_then}
-use Rattle.record_machine.specs.Recoverable.{HasSeat, IsKnown, IsStored, Recoverable, TellsSeat}
+use Rattle.record_machine.specs.Recoverable.{HasSeat, IsKeptBy, IsKnown, IsStored, Recoverable, TellsSeat}
 use Rattle.record_machine.specs.RecoverableParts.{UsedRecoverable}
 use Rattle.record_machine.proofs.LoggedLater.{live_more, longer}
 use Rattle.record_machine.proofs.RecoverableEnds.{used_is}
@@ -353,8 +354,8 @@ module _ (dirty : ℕ → Bool) (h : History) (p : Plain) (m : Machine) (n key p
   known u (inl b) = inl b
   known u (inr l) = inr l
 
-  pub used_now : Recoverable (machine.put (page_of_place m.shape (map_of_key m.shape key) place) true (machine.put (map_of_key m.shape key) true dirty)) (with_locks h1 slots) (logged n rec (with_map (map_of_key m.shape key) map p)) m'
-  used_now = record {
+  pub used_now : m.mode n ≢ Idle → Recoverable (machine.put (page_of_place m.shape (map_of_key m.shape key) place) true (machine.put (map_of_key m.shape key) true dirty)) (with_locks h1 slots) (logged n rec (with_map (map_of_key m.shape key) map p)) m'
+  used_now working = record {
     holds = held_records;
     roomy = (let z = logged_keeps_room h n rec entries now (set_at (page_of_place h.devices.shape (map_of_key m.shape key) place) (suc (length (h.live n))) (set_at (map_of_key m.shape key) (suc (length (h.live n))) h.last)) r.holds.history r.roomy (rw is tt) (rw is refl) fits in record { whole = z.whole; loose = z.loose });
     rolled = record { others = rolled.others; own = rolled.own };
@@ -370,15 +371,20 @@ module _ (dirty : ℕ → Bool) (h : History) (p : Plain) (m : Machine) (n key p
     opens = opens;
     below = λ u up k. longer n rec h.devices.first h.live u.node.0 (r.begun u.node.0 u.seat) (r.below u up (known u k));
     idle = λ u rest k. r.idle u rest (known u k);
+    holder = put_true (machine.put (map_of_key m.shape key) true dirty) (page_of_place m.shape (map_of_key m.shape key) place) (λ y. IsKeptBy m' y (h.guard y)) (kept (page_of_place m.shape (map_of_key m.shape key) place) held_page)
+        (put_true dirty (map_of_key m.shape key) (λ y. IsKeptBy m' y (h.guard y)) (kept (map_of_key m.shape key) held_map) r.holder);
     apart = λ a b y z. r.apart a b (known a y) (known b z);
     locked = locked;
     locker = locker;
   }
+    where
+      kept : (y : ℕ) → m.hold y ≡ Some n → IsKeptBy m' y (h.guard y)
+      kept y held = subst (IsKeptBy m' y) (sym (r.guard y n held)) (inl (held, working))
 
-  pub used_begun : used_now.begun ≡ r.begun
+  pub used_begun : (working : m.mode n ≢ Idle) → (used_now working).begun ≡ r.begun
   unfolding used_now
-  used_begun = refl
+  used_begun working = refl
 
 pub used_recoverable : UsedRecoverable
-used_recoverable dirty h p m n key place rec map r means none free held_map held_page is fits new =
-    (slots dirty h p m n key place rec map r means none free held_map held_page is fits new, used_now dirty h p m n key place rec map r means none free held_map held_page is fits new)
+used_recoverable dirty h p m n key place rec map r means working none free held_map held_page is fits new =
+    (slots dirty h p m n key place rec map r means none free held_map held_page is fits new, used_now dirty h p m n key place rec map r means none free held_map held_page is fits new working)

@@ -1,7 +1,8 @@
 -- A store survives the steps that recover a node.
-use Rattle.std.proofs.Common.{◌≡◌, ◌≢◌, ◌⊎◌, inl, inr, ◌==◌, ℕ, Bool, true, false, not, cond, eqb, if◌then◌else◌, List, [], take, refl, ap, sym, ◌∙◌, arith, Option, Some, None, eq-eqb, ne_eqb}
+use Rattle.std.proofs.Common.{◌≡◌, ◌≢◌, ◌⊎◌, inl, inr, ◌==◌, ◌&&◌, ◌≤◌, ℕ, Bool, true, false, not, cond, eqb, if◌then◌else◌, List, [], take, refl, ap, sym, ◌∙◌, arith, Option, Some, None, eq-eqb, ne_eqb}
+use Rattle.std.specs.FinMap as finite
 use Rattle.std.specs.List.{list_any}
-use Rattle.std.proofs.lemmas.Bool.{cases_eq}
+use Rattle.std.proofs.lemmas.Bool.{and_parts, cases_eq}
 use Rattle.sd_base.specs.declared.names.Key.{Key}
 use Rattle.sd_base.specs.declared.names.TxnId.{TxnId}
 use Rattle.sd_base.specs.Places.{slot_of_key}
@@ -9,31 +10,36 @@ use Rattle.space_map.specs.PageImage.{PageImage}
 use Rattle.record_locks.specs.declared.mode.Mode.{Mode}
 use Rattle.record_locks.specs.declared.mode.Mode.TheVariants as locks
 use Rattle.record_locks.specs.Held.{Held, mode_of, passing, without_node}
-use Rattle.record_locks.specs.Order.{lock}
+use Rattle.record_locks.specs.Order.{Lock, lock, lock_cmp}
 use Rattle.record_locks.proofs.CompatibleLaws.{IsCompatible-locks_where}
 use Rattle.record_locks.proofs.HeldLaws.{get-locks_where}
+use Rattle.record_locks.proofs.OrderLaws.{lock_cmp_antisymmetric, lock_cmp_total}
 use Rattle.recovery_theory.specs.Effect.{OpenUpdate, Transaction, left_of, listed, of_slot, open_updates}
 use Rattle.recovery_theory.specs.History.{History, IsCut, logs_at}
 use Rattle.recovery_theory.specs.Redo.{ArePartlyRedone, with_disk}
 use Rattle.recovery_theory.specs.Steps.{IsPlaceToCut, with_locks}
 use Rattle.recovery_theory.proofs.KeptRecords.{locks_keep, redo_keeps}
 use Rattle.recovery_theory.proofs.OpenUpdates.{list_cases}
-use Rattle.record_machine.specs.Cuts.{Survives, deeds_at, seat_of}
-use Rattle.record_machine.specs.Machine.{Idle, Machine, NodeMode, Redone, Up, is_begin_in, is_busy, put}
+use Rattle.record_machine.specs.Cuts.{Survives, SurvivesAs, deeds_at, seat_of}
+use Rattle.record_machine.specs.Machine.{Down, Idle, Machine, NodeMode, Redone, Up, awaits_recovery, is_begin_in, is_busy, put}
 use Rattle.record_machine.specs.Meaning.{Plain, has_written, writes_key}
-use Rattle.record_machine.specs.Recoverable.{IsKnown, IsStored}
-use Rattle.record_machine.specs.RecoveryParts.{FreedSurvives, RedoBreaksOff, RedoneSurvives}
-use Rattle.record_machine.specs.RecoverySteps.{freed, released}
+use Rattle.record_machine.specs.Recoverable.{IsKeptBy, IsKnown, IsStored}
+use Rattle.record_machine.specs.RecoveryParts.{FreedSurvives, GivenUpSurvives, RecoveredSurvives, RedoBreaksOff, RedoneSurvives}
+use Rattle.record_machine.specs.RecoverySteps.{freed, holding_none, redone, released}
+use Rattle.record_machine.specs.Stops.{any_awaits, recovered}
 use Rattle.record_machine.proofs.LockSteps.{logs_still, pages_still}
 use Rattle.record_machine.proofs.Put.{at_or_off, put_other}
 use Rattle.record_machine.proofs.RestSteps.{logs_rest, means_rest, pages_rest}
 use Rattle.record_machine.proofs.StillStops.{nothing_loose, still_stops}
+use Rattle.record_machine.proofs.StopSteps.{nothing_left}
+use Rattle.record_machine.proofs.StopTables.{any_from, fewer_held}
 
 -- ---- redo
 
 module _ (dirty dirty' : ℕ → Bool) (h : History) (p : Plain) (m : Machine) (n : ℕ) (disk : ℕ → Option PageImage) (s : Survives dirty h p m) (redo : ArePartlyRedone h n disk)
     (stored : (x : ℕ) → dirty' x ≡ false → IsStored (with_disk h disk) x) (mode : ℕ → NodeMode) (hold : ℕ → Option ℕ)
-    (ups : (j : ℕ) → mode j ≡ Up → m.mode j ≡ Up) (rests : (j : ℕ) → mode j ≡ Idle → m.mode j ≡ Idle) (fewer : (x k : ℕ) → hold x ≡ Some k → m.hold x ≡ Some k) where
+    (ups : (j : ℕ) → mode j ≡ Up → m.mode j ≡ Up) (rests : (j : ℕ) → mode j ≡ Idle → m.mode j ≡ Idle) (fewer : (x k : ℕ) → hold x ≡ Some k → m.hold x ≡ Some k) (inside : (j : ℕ) → mode j ≢ Idle → (1 ≤ j) × (j ≤ m.shape.nodes))
+    (keeps : (x : ℕ) → dirty' x ≡ true → IsKeptBy (record m { mode = mode; hold = hold }) x (h.guard x)) where
   pub with_pages : Survives dirty' (with_disk h disk) p (record m { mode = mode; hold = hold })
   with_pages = record {
     recoverable = record {
@@ -58,35 +64,68 @@ module _ (dirty dirty' : ℕ → Bool) (h : History) (p : Plain) (m : Machine) (
       locked = s.recoverable.locked;
       locker = s.recoverable.locker;
       idle = λ t rest k. s.recoverable.idle t (rests t.node.0 rest) k;
+      holder = keeps;
     };
     means = means_rest p m mode m.reopening hold m.first m.loose m.gone s.means;
-    stops = still_stops h m s.recoverable.begun disk h.stable h.lock mode m.reopening m.locks hold m.loose s.stops (λ j. omega arith) (λ j c le lt. refl) s.stops.enough (λ j k seat key at any e. e) (λ j rest. s.stops.resting j (rests j rest));
+    stops = still_stops h m s.recoverable.begun disk h.stable h.lock mode m.reopening m.locks hold m.loose s.stops (λ j. omega arith) (λ j c le lt. refl) s.stops.enough (λ j k seat key at any e. e) (λ j rest. s.stops.resting j (rests j rest))
+        (λ key t how had rest. s.stops.owners key t how had (rests t.node.0 rest)) inside;
   }
 
+-- what is still held once a node holds nothing was held
+fewer_left : (n : ℕ) (hold : ℕ → Option ℕ) (x k : ℕ) → released n hold x ≡ Some k → hold x ≡ Some k
+fewer_left n hold x k e = of_hold (hold x) refl
+  where
+    of_hold : (o : Option ℕ) → hold x ≡ o → hold x ≡ Some k
+    of_hold None q = let never : None ≡ Some k = rw q at e in absurd cc
+    of_hold (Some i) q = q ∙ go (i == n) (rw q at e)
+      where
+        go : (b : Bool) → (if b then None else Some i) ≡ Some k → Some i ≡ Some k
+        go true z = absurd cc
+        go false z = z
+
+-- and what another node held it holds
+still_held : (n : ℕ) (hold : ℕ → Option ℕ) (x k : ℕ) → k ≢ n → hold x ≡ Some k → released n hold x ≡ Some k
+still_held n hold x k d e = rw e (rw (ne_eqb k n d) refl)
+
 pub redo_breaks_off : RedoBreaksOff
-redo_breaks_off dirty dirty' h p m n disk s redo stored = with_pages dirty dirty' h p m n disk s redo stored m.mode m.hold (λ j e. e) (λ j e. e) (λ x k e. e)
+redo_breaks_off dirty dirty' h p m n disk s redo stored fewer = with_pages dirty dirty' h p m n disk s redo stored m.mode m.hold (λ j e. e) (λ j e. e) (λ x k e. e) s.stops.nodes (λ x e. s.recoverable.holder x (fewer x e))
 
 pub redone_survives : RedoneSurvives
-redone_survives dirty dirty' h p m n disk s redo stored = with_pages dirty dirty' h p m n disk s redo stored (put n Redone m.mode) (released n m.hold)
-    (not_it Up (λ e. cc)) (not_it Idle (λ e. cc)) fewer
+redone_survives dirty dirty' h p m n disk s working redo stored others = with_pages dirty dirty' h p m n disk s redo stored (put n Redone m.mode) (released n m.hold)
+    (not_it Up (λ e. cc)) (not_it Idle (λ e. cc)) (fewer_left n m.hold) (λ j used. inside j used (cases_eq j n))
+    (λ x e. let z = others x e in keeps (h.guard x) z.1 (s.recoverable.holder x z.0))
   where
+    keeps : {x : ℕ} (g : ℕ) → g ≢ n → IsKeptBy m x g → IsKeptBy (redone n m) x g
+    keeps {x} g d (inl z) = inl (still_held n m.hold x g d z.0, λ rest. z.1 (sym (put_other n Redone m.mode g d) ∙ rest))
+    keeps {x} g d (inr z) = inr (z.0, put_other n Redone m.mode g d ∙ z.1)
+
+    inside : (j : ℕ) → put n Redone m.mode j ≢ Idle → (j ≡ n) ⊎ (j ≢ n) → (1 ≤ j) × (j ≤ m.shape.nodes)
+    inside j used (inl e) = s.stops.nodes j (λ rest. working (ap m.mode (sym e) ∙ rest))
+    inside j used (inr d) = s.stops.nodes j (λ rest. used (put_other n Redone m.mode j d ∙ rest))
+
     not_it : (mode : NodeMode) → Redone ≢ mode → (j : ℕ) → put n Redone m.mode j ≡ mode → m.mode j ≡ mode
     not_it mode other j = at_or_off (λ k. k ≡ mode → m.mode j ≡ mode) n Redone m.mode j (λ e is. absurd (other is)) (λ e is. is)
 
-    fewer : (x k : ℕ) → released n m.hold x ≡ Some k → m.hold x ≡ Some k
-    fewer x k e = of_hold (m.hold x) refl
-      where
-        of_hold : (o : Option ℕ) → m.hold x ≡ o → m.hold x ≡ Some k
-        of_hold None q = let never : None ≡ Some k = rw q at e in absurd cc
-        of_hold (Some i) q = q ∙ go (i == n) (rw q at e)
-          where
-            go : (b : Bool) → (if b then None else Some i) ≡ Some k → Some i ≡ Some k
-            go true z = absurd cc
-            go false z = z
+-- a node gives up what it holds
+pub given_up_survives : GivenUpSurvives
+given_up_survives dirty h p m u s others = fewer_held dirty h p m m.mode m.reopening (released u m.hold) (λ j e. e) (λ j e. e) (fewer_left u m.hold) s.stops.nodes
+    (λ x e. keeps (h.guard x) (others x e) (s.recoverable.holder x e)) s
+  where
+    keeps : {x : ℕ} (g : ℕ) → g ≢ u → IsKeptBy m x g → IsKeptBy (holding_none u m) x g
+    keeps {x} g d (inl z) = inl (still_held u m.hold x g d z.0, z.1)
+    keeps {x} g d (inr z) = inr z
 
 -- ---- nothing is left of a node
 
-module _ (dirty : ℕ → Bool) (h : History) (p : Plain) (m : Machine) (u w : ℕ) (s : Survives dirty h p m) (none : m.pending u ≡ []) (sure : m.loose u ≡ []) where
+-- its locks go
+own_gone : (m : Held) (u : ℕ) (key : Key) (t : TxnId) → t.node.0 ≡ u → mode_of (without_node (record { 0 = u }) m) key t ≡ None
+own_gone m u key t e = get-locks_where (λ l mode. not (l.txn.node.0 == u)) m (lock key t) ∙ by (mode_of m key t)
+  where
+    by : (o : Option Mode) → passing (λ l mode. not (l.txn.node.0 == u)) (lock key t) o ≡ None
+    by None = refl
+    by (Some mode) = rw (eq-eqb t.node.0 u e) refl
+
+module _ (dirty : ℕ → Bool) (h : History) (p : Plain) (m : Machine) (u w : ℕ) (s : Survives dirty h p m) (working : m.mode u ≢ Idle) (none : m.pending u ≡ []) (sure : m.loose u ≡ []) (others : (x : ℕ) → dirty x ≡ true → h.guard x ≢ u) where
   -- none of its transactions is open
   not_busy : (t : TxnId) → t.node.0 ≡ u → is_busy m t ≡ true → ⊥
   not_busy t node b = let never : false ≡ true = sym (ap (list_any (is_begin_in t.seat)) (ap m.pending node ∙ none)) ∙ b in cc
@@ -134,14 +173,10 @@ module _ (dirty : ℕ → Bool) (h : History) (p : Plain) (m : Machine) (u w : �
   had : (t : TxnId) (key : Key) → mode_of held key t ≡ Some locks.Write → (t.node.0 ≢ u) × (mode_of m.locks key t ≡ Some locks.Write)
   had t key has = go (cases_eq t.node.0 u)
     where
-      gone : t.node.0 ≡ u → (o : Option Mode) → passing (λ l mode. not (l.txn.node.0 == u)) (lock key t) o ≡ None
-      gone e None = refl
-      gone e (Some mode) = rw (eq-eqb t.node.0 u e) refl
-
       go : (t.node.0 ≡ u) ⊎ (t.node.0 ≢ u) → (t.node.0 ≢ u) × (mode_of m.locks key t ≡ Some locks.Write)
       go (inr d) = (d, sym (kept t key d) ∙ has)
       go (inl e) =
-          let never : None ≡ Some locks.Write = sym (get-locks_where (λ l mode. not (l.txn.node.0 == u)) m.locks (lock key t) ∙ gone e (mode_of m.locks key t)) ∙ has in
+          let never : None ≡ Some locks.Write = sym (own_gone m.locks u key t e) ∙ has in
           absurd cc
 
   known : (t : TxnId) → IsKnown (freed u w m) t → (t.node.0 ≢ u) × IsKnown m t
@@ -194,6 +229,7 @@ module _ (dirty : ℕ → Bool) (h : History) (p : Plain) (m : Machine) (u w : �
           let l = s.recoverable.locker o key x is z.0 in
           (l.0, kept l.0 key (λ q. z.1 (ap (λ (i : Transaction). i.node) l.2 ∙ q)) ∙ l.1, l.2));
       idle = λ t rest k. (let z = known t k in s.recoverable.idle t (modes t Idle z.0 rest) z.1);
+      holder = λ x e. keeps (h.guard x) (others x e) (s.recoverable.holder x e);
     };
     means = record {
       pages = pages_rest p (record m { locks = held }) (put u (if u == w then Up else Idle) m.mode) m.reopening m.hold m.first m.loose m.gone (pages_still p m held s.means.pages);
@@ -205,9 +241,22 @@ module _ (dirty : ℕ → Bool) (h : History) (p : Plain) (m : Machine) (u w : �
       tops = s.means.tops;
     };
     stops = still_stops h m s.recoverable.begun h.devices.disk h.stable lock' (put u (if u == w then Up else Idle) m.mode) m.reopening held m.hold m.loose s.stops (λ j. omega arith) (λ j c le lt. refl) s.stops.enough
-        (λ j k seat key at any e. still j k seat key at any e (cases_eq j u)) (λ j rest. resting j rest (cases_eq j u));
+        (λ j k seat key at any e. still j k seat key at any e (cases_eq j u)) (λ j rest. resting j rest (cases_eq j u))
+        (λ key t how had rest. owners key t how had rest (cases_eq t.node.0 u)) (λ j used. inside j used (cases_eq j u));
   }
     where
+      keeps : {x : ℕ} (g : ℕ) → g ≢ u → IsKeptBy m x g → IsKeptBy (freed u w m) x g
+      keeps g d (inl z) = inl (z.0, λ rest. z.1 (sym (put_other u (if u == w then Up else Idle) m.mode g d) ∙ rest))
+      keeps g d (inr z) = inr (z.0, put_other u (if u == w then Up else Idle) m.mode g d ∙ z.1)
+
+      owners : (key : Key) (t : TxnId) (how : Mode) → mode_of held key t ≡ Some how → put u (if u == w then Up else Idle) m.mode t.node.0 ≡ Idle → (t.node.0 ≡ u) ⊎ (t.node.0 ≢ u) → ⊥
+      owners key t how has rest (inl e) = let never : None ≡ Some how = sym (own_gone m.locks u key t e) ∙ has in absurd cc
+      owners key t how has rest (inr d) = s.stops.owners key t how (sym (kept t key d) ∙ has) (modes t Idle d rest)
+
+      inside : (j : ℕ) → put u (if u == w then Up else Idle) m.mode j ≢ Idle → (j ≡ u) ⊎ (j ≢ u) → (1 ≤ j) × (j ≤ m.shape.nodes)
+      inside j used (inl e) = s.stops.nodes j (λ rest. working (ap m.mode (sym e) ∙ rest))
+      inside j used (inr d) = s.stops.nodes j (λ rest. used (put_other u (if u == w then Up else Idle) m.mode j d ∙ rest))
+
       written : (t : TxnId) (key : Key) → has_written m t key.0 ≡ true → (t.node.0 ≡ u) ⊎ (t.node.0 ≢ u) → mode_of held key t ≡ Some locks.Write
       written t key any (inr d) = kept t key d ∙ s.means.locked.written t key any
       written t key any (inl e) = let never : false ≡ true = sym (ap (list_any (writes_key t.seat key.0)) (ap m.pending e ∙ none)) ∙ any in absurd cc
@@ -224,4 +273,76 @@ module _ (dirty : ℕ → Bool) (h : History) (p : Plain) (m : Machine) (u w : �
       resting j rest (inr d) = s.stops.resting j (sym (put_other u (if u == w then Up else Idle) m.mode j d) ∙ rest)
 
 pub freed_survives : FreedSurvives
-freed_survives dirty h p m u w s none sure = (λ x k. but dirty h p m u w s none sure (h.lock x k), freed_here dirty h p m u w s none sure)
+freed_survives dirty h p m u w s working none sure others = (λ x k. but dirty h p m u w s working none sure others (h.lock x k), freed_here dirty h p m u w s working none sure others)
+
+-- ---- the last one
+
+module _ (held : Held) (dirty : ℕ → Bool) (h : History) (p : Plain) (m : Machine) (u w : ℕ) (s : SurvivesAs held dirty h p m) (working : m.mode u ≢ Idle) (none : m.pending u ≡ []) (sure : m.loose u ≡ []) (others : (x : ℕ) → dirty x ≡ true → h.guard x ≢ u) where
+  abbrev as_if : Machine
+  as_if = record m { locks = held }
+
+  -- whoever still has a lock is of a node that awaits recovery
+  nobody : m.reopening ≡ true → any_awaits (freed u w m) ≡ false → (key : Key) (t : TxnId) (o : Option Mode) → mode_of held key t ≡ o → t.node.0 ≢ u → o ≡ None
+  nobody lost over key t None is d = refl
+  nobody lost over key t (Some how) is d = by (m.mode t.node.0) refl
+    where
+      freed_mode : put u (if u == w then Up else Idle) m.mode t.node.0 ≡ m.mode t.node.0
+      freed_mode = put_other u (if u == w then Up else Idle) m.mode t.node.0 d
+
+      waits : awaits_recovery (m.mode t.node.0) ≡ true → Some how ≡ None
+      waits e =
+          let z = s.survives.stops.nodes t.node.0 (s.survives.stops.owners key t how is) in
+          let low = z.0 in
+          let high = z.1 in
+          let never : true ≡ false = sym (any_from (λ j. awaits_recovery (put u (if u == w then Up else Idle) m.mode j)) 1 m.shape.nodes t.node.0 low (omega (arith, high)) (ap awaits_recovery freed_mode ∙ e)) ∙ over in
+          absurd cc
+
+      by : (mode : NodeMode) → m.mode t.node.0 ≡ mode → Some how ≡ None
+      by Idle e = absurd (s.survives.stops.owners key t how is e)
+      by Up e = sym is ∙ (s.quiet lost t e).1 key
+      by Down e = waits (ap awaits_recovery e)
+      by Redone e = waits (ap awaits_recovery e)
+
+  all_gone : m.reopening ≡ true → any_awaits (freed u w m) ≡ false → without_node (record { 0 = u }) held ≡ finite.empty
+  all_gone lost over = finite.same_map lock_cmp_total lock_cmp_antisymmetric _ _ (λ l. by l (cases_eq l.txn.node.0 u) ∙ sym (finite.get-empty lock_cmp l))
+    where
+      by : (l : Lock) → (l.txn.node.0 ≡ u) ⊎ (l.txn.node.0 ≢ u) → mode_of (without_node (record { 0 = u }) held) l.key l.txn ≡ None
+      by l (inl e) = own_gone held u l.key l.txn e
+      by l (inr d) = kept dirty h p as_if u w s.survives working none sure others l.txn l.key d ∙ nobody lost over l.key l.txn (mode_of held l.key l.txn) refl d
+
+  own : (b : Bool) → m.reopening ≡ b → (b && any_awaits (freed u w m)) ≡ false → without_node (record { 0 = u }) held ≡ without_node (record { 0 = u }) m.locks
+  own false is e = ap (without_node (record { 0 = u })) (s.own is)
+  own true is e = all_gone is e ∙ sym (ap (without_node (record { 0 = u })) (s.lost is) ∙ nothing_left (λ l mode. not (l.txn.node.0 == u)))
+
+  still_lost : (m.reopening && any_awaits (freed u w m)) ≡ true → (m.reopening ≡ true) × (any_awaits (freed u w m) ≡ true)
+  still_lost e = and_parts m.reopening (any_awaits (freed u w m)) e
+
+  calm : m.reopening ≡ true → (t : TxnId) → put u (if u == w then Up else Idle) m.mode t.node.0 ≡ Up → (t.node.0 ≡ u) ⊎ (t.node.0 ≢ u) → (is_busy m t ≡ false) × ((key : Key) → mode_of (without_node (record { 0 = u }) held) key t ≡ None)
+  calm lost t up (inl e) = (ap (list_any (is_begin_in t.seat)) (ap m.pending e ∙ none), λ key. own_gone held u key t e)
+  calm lost t up (inr d) =
+      let z = s.quiet lost t (modes dirty h p as_if u w s.survives working none sure others t Up d up) in
+      (z.0, λ key. kept dirty h p as_if u w s.survives working none sure others t key d ∙ z.1 key)
+
+  pub recovered_here : SurvivesAs (without_node (record { 0 = u }) held) dirty (with_locks h (λ x k. but dirty h p as_if u w s.survives working none sure others (h.lock x k))) p (recovered (freed u w m))
+  recovered_here = record {
+    survives = fewer_held dirty (with_locks h (λ x k. but dirty h p as_if u w s.survives working none sure others (h.lock x k))) p (freed u w as_if) (freed u w as_if).mode (m.reopening && any_awaits (freed u w m)) m.hold (λ j e. e) (λ j e. e) (λ x k e. e)
+        now.stops.nodes (λ x e. keeps (h.guard x) (now.recoverable.holder x e)) now;
+    own = own m.reopening refl;
+    lost = λ e. ap (without_node (record { 0 = u })) (s.lost (still_lost e).0) ∙ nothing_left (λ l mode. not (l.txn.node.0 == u));
+    awaits = λ e. (still_lost e).1;
+    quiet = λ e t up. calm (still_lost e).0 t up (cases_eq t.node.0 u);
+  }
+    where
+      now : Survives dirty (with_locks h (λ x k. but dirty h p as_if u w s.survives working none sure others (h.lock x k))) p (freed u w as_if)
+      now = freed_here dirty h p as_if u w s.survives working none sure others
+
+      keeps : {x : ℕ} (g : ℕ) → IsKeptBy (freed u w as_if) x g → IsKeptBy (recovered (freed u w m)) x g
+      keeps g (inl z) = inl z
+      keeps g (inr z) =
+          let at = now.stops.nodes g (λ rest. let never : Down ≡ Idle = sym z.1 ∙ rest in absurd cc) in
+          let low = at.0 in
+          let high = at.1 in
+          inr (rw z.0 (any_from (λ j. awaits_recovery ((freed u w m).mode j)) 1 m.shape.nodes g low (omega (arith, high)) (ap awaits_recovery z.1)), z.1)
+
+pub recovered_survives : RecoveredSurvives
+recovered_survives held dirty h p m u w s working none sure others = (λ x k. but dirty h p (record m { locks = held }) u w s.survives working none sure others (h.lock x k), recovered_here held dirty h p m u w s working none sure others)

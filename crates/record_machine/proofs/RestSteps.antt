@@ -23,7 +23,7 @@ pages_rest p m mode reopening hold first loose gone was = record {
 }
 
 pub logs_rest : (p : Plain) (m : Machine) (mode : ℕ → NodeMode) (reopening : Bool) (hold : ℕ → Option ℕ) (first : ℕ → ℕ) (loose : ℕ → List LooseChange) (gone : ℕ → Bool) → AreLogs p m → AreLogs p (with_rest mode reopening hold first loose gone m)
-logs_rest p m mode reopening hold first loose gone was = record { tail = was.tail; deeds = was.deeds; homes = was.homes }
+logs_rest p m mode reopening hold first loose gone was = record { tail = was.tail; deeds = was.deeds; rising = was.rising; homes = was.homes }
 
 pub locked_rest : (m : Machine) (mode : ℕ → NodeMode) (reopening : Bool) (hold : ℕ → Option ℕ) (first : ℕ → ℕ) (loose : ℕ → List LooseChange) (gone : ℕ → Bool) → AreLocked m → AreLocked (with_rest mode reopening hold first loose gone m)
 locked_rest m mode reopening hold first loose gone was = record { apart = was.apart; written = was.written }

@@ -1,9 +1,10 @@
 -- The machine after a transaction has ended.
-use Rattle.std.specs.Prelude.{◌≡◌, ◌≢◌, ◌==◌, ◌⊎◌, ◌++◌, ◌∷◌, [], ℕ, Bool, true, false, not, List, Option, Some, All, IfSome, refl}
+use Rattle.std.specs.Prelude.{◌≡◌, ◌≢◌, ◌==◌, ◌⊎◌, ◌<◌, ◌++◌, ◌∷◌, [], ℕ, Bool, true, false, not, List, Option, Some, All, IfSome, refl}
 use Rattle.std.specs.List.{list_any}
 use Rattle.std.proofs.Common.{inl, inr, ap, subst, sym, ◌∙◌}
 use Rattle.std.proofs.lemmas.Bool.{cases_eq, eq-eqb, eqb-true}
 use Rattle.std.proofs.lemmas.List.Elements.{All-filter}
+use Rattle.std.proofs.lemmas.List.Kept.{AllPairs-filter}
 use Rattle.sd_base.specs.declared.names.Key.{Key}
 use Rattle.sd_base.specs.declared.names.TxnId.{TxnId}
 use Rattle.sd_base.specs.Places.{slot_of_key}
@@ -13,7 +14,7 @@ use Rattle.record_locks.specs.declared.mode.Mode.TheVariants as locks
 use Rattle.record_locks.specs.Held.{mode_of}
 use Rattle.record_machine.specs.Machine.{Machine, home, overlaid, put, seen}
 use Rattle.record_machine.specs.Parts.{Seal, one}
-use Rattle.record_machine.specs.Meaning.{AreLocked, AreLogged, AreLogs, ArePages, IsPresent, Plain, first_record, has_written, logged, writes_key}
+use Rattle.record_machine.specs.Meaning.{AreInOrder, AreLocked, AreLogged, AreLogs, ArePages, IsPresent, Plain, first_record, has_written, logged, writes_key}
 use Rattle.record_machine.proofs.Deeds.{logged-longer, logged-same, logged-without, overlaid_not, overlaid_others, without, written_none, written_others}
 use Rattle.record_machine.proofs.DeedSteps.{one_txn, tail_longer}
 use Rattle.record_machine.proofs.UseSteps.{never_written}
@@ -115,6 +116,9 @@ pub logs_sealed : (t : TxnId) (p : Plain) (m : Machine) (rec : LogRecord) → Ar
 logs_sealed t p m rec locked was = record {
   tail = λ n. tail_longer t.node.0 p m rec n (was.tail n);
   deeds = λ n. by_deeds n;
+  rising = λ n. at_or_off AreInOrder t.node.0 (without t.seat (m.pending t.node.0)) m.pending n
+      (λ node. AllPairs-filter (λ d e. d.number < e.number) (λ d. not (d.seat == t.seat)) (m.pending t.node.0) (was.rising t.node.0))
+      (λ other. was.rising n);
   homes = λ u. at_or_off (λ ds. All (λ d. IfSome d.write (λ w. home m w.key ≡ Some w.page)) ds) t.node.0 (without t.seat (m.pending t.node.0)) m.pending u.node.0
       (λ node. All-filter (λ d. not (d.seat == t.seat)) (λ d. IfSome d.write (λ w. home m w.key ≡ Some w.page)) (m.pending t.node.0) (was.homes t))
       (λ other. was.homes u);

@@ -134,6 +134,8 @@ module _ (dirty : ℕ → Bool) (h : History) (p : Plain) (m : Machine) (t : Txn
     back = λ j k at. back j k at (cases_eq j t.node.0);
     used = λ x k at used. used_now x k at used (cases_eq (h.guard x) t.node.0);
     resting = λ j rest. at_or_off (λ l. l ≡ []) t.node.0 [] m.loose j (λ e. refl) (λ d. s.stops.resting j rest);
+    owners = s.stops.owners;
+    nodes = s.stops.nodes;
   }
     where
       enough : (j : ℕ) → (j ≡ t.node.0) ⊎ (j ≢ t.node.0) → length (h'.live j) ≤ h'.stable j + length (m'.loose j)

@@ -63,7 +63,7 @@ pub means_changed : (p : Plain) (m : Machine) (t : TxnId) (w : Write) (rec : Log
 means_changed p m t w rec v here lock tells changed room owing means = record {
   pages = pages_changed t w p m rec v here changed means.pages;
   logs = logs_rest (logged t.node.0 rec (with_page w.page v p)) (done_by t (Some w) raised) m.mode m.reopening m.hold m.first (one (part.Change t w) m).loose m.gone
-      (logs_done t (Some w) raised (with_page w.page v p) rec (λ none. cc) tells here (record { tail = means.logs.tail; deeds = means.logs.deeds; homes = means.logs.homes }));
+      (logs_done t (Some w) raised (with_page w.page v p) rec (λ none. cc) tells here (record { tail = means.logs.tail; deeds = means.logs.deeds; rising = means.logs.rising; homes = means.logs.homes }));
   locked = locked_rest (done_by t (Some w) raised) m.mode m.reopening m.hold m.first (one (part.Change t w) m).loose m.gone
       (locked_done t (Some w) raised (λ key same. subst (λ k. mode_of m.locks (record { 0 = k }) t ≡ Some locks.Write) (sym same) lock) (record { apart = means.locked.apart; written = means.locked.written }));
   tops = tops_changed t w m means.pages.shape room owing means.tops;

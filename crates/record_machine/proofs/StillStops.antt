@@ -1,12 +1,16 @@
 -- Steps that log nothing: what a stop takes back stays what it was.
-use Rattle.std.proofs.Common.{◌≡◌, ◌≢◌, ◌⊎◌, inl, inr, ◌+◌, ◌-◌, ◌≤◌, ℕ, Bool, true, false, List, [], length, drop, refl, ap, sym, subst, ◌∙◌, arith, Option, Some, None, count_by, take}
+use Rattle.std.proofs.Common.{◌≡◌, ◌≢◌, ◌⊎◌, inl, inr, ◌+◌, ◌-◌, ◌≤◌, ℕ, Bool, true, false, not, List, [], length, drop, refl, ap, sym, subst, ◌∙◌, arith, Option, Some, None, count_by, take}
+use Rattle.std.specs.FinMap as finite
 use Rattle.std.specs.List.{list_any}
 use Rattle.std.proofs.lemmas.List.{drop_all}
 use Rattle.std.proofs.lemmas.Bool.{cases_eq}
 use Rattle.sd_base.specs.declared.names.Key.{Key}
 use Rattle.sd_base.specs.declared.names.TxnId.{TxnId}
+use Rattle.record_locks.specs.declared.mode.Mode.{Mode}
 use Rattle.record_locks.specs.declared.mode.Mode.TheVariants as locks
-use Rattle.record_locks.specs.Held.{Held, mode_of, taken, without_txn}
+use Rattle.record_locks.specs.Held.{Held, mode_of, raised, taken, without_txn}
+use Rattle.record_locks.specs.Order.{Lock, lock, lock_cmp, same_txn}
+use Rattle.record_locks.proofs.HeldLaws.{get-taken}
 use Rattle.space_map.specs.PageImage.{PageImage}
 use Rattle.recovery_theory.specs.Effect.{Transaction}
 use Rattle.recovery_theory.specs.History.{History, image_now}
@@ -18,6 +22,7 @@ use Rattle.record_machine.specs.Machine.{formatted, Deed, Idle, LooseChange, Mac
 use Rattle.record_machine.specs.Meaning.{born, has_written, writes_key}
 use Rattle.record_machine.specs.Parts as part
 use Rattle.record_machine.specs.Parts.{one}
+use Rattle.record_machine.specs.Recoverable.{IsKeptBy}
 use Rattle.record_machine.specs.Stops.{entries_before, ident_before, pending_before, tail_before}
 use Rattle.record_machine.proofs.CutSteps.{told_still}
 use Rattle.record_machine.proofs.FormattedLaws.{means_formatted}
@@ -28,6 +33,7 @@ use Rattle.record_machine.proofs.RecoverableLocks.{but, keeps_write, locked_now,
 use Rattle.record_machine.proofs.RecoverablePages.{forced_begun, forced_recoverable, started_begun, started_recoverable, written_begun, written_recoverable}
 use Rattle.record_machine.proofs.RestSteps.{means_rest}
 use Rattle.record_machine.proofs.SealSteps.{same_or_not}
+use Rattle.record_machine.proofs.StopSteps.{lock_was}
 use Rattle.record_machine.proofs.StopPages.{nothing_behind}
 use Rattle.record_machine.proofs.Steps.{means_locked, means_unlocked}
 use Rattle.record_machine.proofs.ToldNow.{entries_now, ident_now, told_now}
@@ -44,7 +50,7 @@ module _ (h : History) (m : Machine) (begun : ℕ → ℕ → ℕ) (disk : ℕ �
     (behind : (j k : ℕ) → stable j ≤ k → k ≤ length (h.live j) → behind_cut (with_stable disk stable lock h) (with_other mode reopening held hold loose m) j k ≡ behind_cut h m j k)
     (enough : (j : ℕ) → length (h.live j) ≤ stable j + length (loose j))
     (kept : (j k seat : ℕ) (key : Key) → IsPlaceToCut h j k → list_any (writes_key seat key.0) (deeds_at h m j k) ≡ true → mode_of m.locks key (seat_of j seat) ≡ Some locks.Write → mode_of held key (seat_of j seat) ≡ Some locks.Write)
-    (resting : (j : ℕ) → mode j ≡ Idle → loose j ≡ []) where
+    (resting : (j : ℕ) → mode j ≡ Idle → loose j ≡ []) (owners : (key : Key) (t : TxnId) (how : Mode) → mode_of held key t ≡ Some how → mode t.node.0 ≢ Idle) (nodes : (j : ℕ) → mode j ≢ Idle → (1 ≤ j) × (j ≤ m.shape.nodes)) where
   abbrev h' : History
   h' = with_stable disk stable lock h
 
@@ -80,6 +86,8 @@ module _ (h : History) (m : Machine) (begun : ℕ → ℕ → ℕ) (disk : ℕ �
     back = back;
     used = λ x k at used. was.used x k (record { low = (let low = at.low in omega (arith, low, more (h.guard x))); high = at.high }) used;
     resting = resting;
+    owners = owners;
+    nodes = nodes;
   }
 
 -- ---- the steps
@@ -89,7 +97,7 @@ forced_survives dirty h p m n k s low high = record {
   recoverable = forced_recoverable dirty h p m n k s.recoverable low high;
   means = s.means;
   stops = subst (MayStop (forced h n k) m) (sym (forced_begun dirty h p m n k s.recoverable low high)) (still_stops h m s.recoverable.begun h.devices.disk (set_at n k h.stable) h.lock m.mode m.reopening m.locks m.hold m.loose s.stops more (λ j c le lt. refl)
-      (λ j. let old = s.stops.enough j in let up = more j in omega (arith, old, up)) (λ j k seat key at any e. e) s.stops.resting);
+      (λ j. let old = s.stops.enough j in let up = more j in omega (arith, old, up)) (λ j k seat key at any e. e) s.stops.resting s.stops.owners s.stops.nodes);
 }
   where
     more : (j : ℕ) → h.stable j ≤ set_at n k h.stable j
@@ -100,11 +108,11 @@ written_survives dirty h p m x s sure = record {
   recoverable = written_recoverable dirty h p m x s.recoverable sure;
   means = s.means;
   stops = subst (MayStop (on_disk h x (Some (image_now h x))) m) (sym (written_begun dirty h p m x s.recoverable sure))
-      (still_stops h m s.recoverable.begun (set_at x (Some (image_now h x)) h.devices.disk) h.stable h.lock m.mode m.reopening m.locks m.hold m.loose s.stops (λ j. omega arith) (λ j c le lt. refl) s.stops.enough (λ j k seat key at any e. e) s.stops.resting);
+      (still_stops h m s.recoverable.begun (set_at x (Some (image_now h x)) h.devices.disk) h.stable h.lock m.mode m.reopening m.locks m.hold m.loose s.stops (λ j. omega arith) (λ j c le lt. refl) s.stops.enough (λ j k seat key at any e. e) s.stops.resting s.stops.owners s.stops.nodes);
 }
 
 pub dropped_survives : DroppedSurvives
-dropped_survives dirty h p m x s = record {
+dropped_survives dirty h p m x s clean = record {
   recoverable = record {
     holds = s.recoverable.holds;
     roomy = s.recoverable.roomy;
@@ -124,11 +132,20 @@ dropped_survives dirty h p m x s = record {
     locked = s.recoverable.locked;
     locker = s.recoverable.locker;
     idle = s.recoverable.idle;
+    holder = λ y e. holder y e (cases_eq y x);
   };
   means = means_rest p m m.mode m.reopening (put x None m.hold) m.first m.loose m.gone s.means;
-  stops = still_stops h m s.recoverable.begun h.devices.disk h.stable h.lock m.mode m.reopening m.locks (put x None m.hold) m.loose s.stops (λ j. omega arith) (λ j c le lt. refl) s.stops.enough (λ j k seat key at any e. e) s.stops.resting;
+  stops = still_stops h m s.recoverable.begun h.devices.disk h.stable h.lock m.mode m.reopening m.locks (put x None m.hold) m.loose s.stops (λ j. omega arith) (λ j c le lt. refl) s.stops.enough (λ j k seat key at any e. e) s.stops.resting s.stops.owners s.stops.nodes;
 }
   where
+    holder : (y : ℕ) → dirty y ≡ true → (y ≡ x) ⊎ (y ≢ x) → IsKeptBy (one (part.Drop x) m) y (h.guard y)
+    holder y e (inl z) = let never : true ≡ false = sym e ∙ (ap dirty z ∙ clean) in absurd cc
+    holder y e (inr d) = kept (s.recoverable.holder y e)
+      where
+        kept : IsKeptBy m y (h.guard y) → IsKeptBy (one (part.Drop x) m) y (h.guard y)
+        kept (inl z) = inl (put_other x None m.hold y d ∙ z.0, z.1)
+        kept (inr z) = inr z
+
     guard : (y n : ℕ) → put x None m.hold y ≡ Some n → (y ≡ x) ⊎ (y ≢ x) → h.guard y ≡ n
     guard y n e (inl same) = let never : None ≡ Some n = sym (put_same x None m.hold y same) ∙ e in absurd cc
     guard y n e (inr other) = s.recoverable.guard y n (sym (put_other x None m.hold y other) ∙ e)
@@ -155,10 +172,11 @@ sure_survives dirty h p m n s sure = record {
     locked = s.recoverable.locked;
     locker = s.recoverable.locker;
     idle = s.recoverable.idle;
+    holder = s.recoverable.holder;
   };
   means = means_rest p m m.mode m.reopening m.hold m.first (put n [] m.loose) m.gone s.means;
   stops = still_stops h m s.recoverable.begun h.devices.disk h.stable h.lock m.mode m.reopening m.locks m.hold (put n [] m.loose) s.stops (λ j. omega arith) (λ j k low high. behind j k low high (cases_eq j n))
-      (λ j. enough j (cases_eq j n)) (λ j k seat key at any e. e) (λ j rest. at_or_off (λ l. l ≡ []) n [] m.loose j (λ e. refl) (λ d. s.stops.resting j rest));
+      (λ j. enough j (cases_eq j n)) (λ j k seat key at any e. e) (λ j rest. at_or_off (λ l. l ≡ []) n [] m.loose j (λ e. refl) (λ d. s.stops.resting j rest)) s.stops.owners s.stops.nodes;
 }
   where
     behind : (j k : ℕ) → h.stable j ≤ k → k ≤ length (h.live j) → (j ≡ n) ⊎ (j ≢ n) → behind_cut h (record m { loose = put n [] m.loose }) j k ≡ behind_cut h m j k
@@ -173,14 +191,19 @@ sure_survives dirty h p m n s sure = record {
     enough j (inl e) = let whole : h.stable j ≡ length (h.live j) = subst (λ i. h.stable i ≡ length (h.live i)) (sym e) sure in omega (arith, whole)
 
 pub started_survives : StartedSurvives
-started_survives dirty h p m n s rest = record {
+started_survives dirty h p m n s rest low high = record {
   recoverable = started_recoverable dirty h p m n s.recoverable rest;
   means = means_started p m n s.means;
   stops = subst (MayStop h (one (part.Start n) m)) (sym (started_begun dirty h p m n s.recoverable rest)) (still_stops h m s.recoverable.begun h.devices.disk h.stable h.lock (put n Up m.mode) m.reopening m.locks m.hold (put n [] m.loose) s.stops (λ j. omega arith)
       (λ j k low high. ap (λ (l : List LooseChange). drop (length l - (length (h.live j) - k)) l) (same j (cases_eq j n)))
-      (λ j. rw (same j (cases_eq j n)) (s.stops.enough j)) (λ j k seat key at any e. e) (λ j still. at_or_off (λ l. l ≡ []) n [] m.loose j (λ e. refl) (λ d. s.stops.resting j (sym (put_other n Up m.mode j d) ∙ still))));
+      (λ j. rw (same j (cases_eq j n)) (s.stops.enough j)) (λ j k seat key at any e. e) (λ j still. at_or_off (λ l. l ≡ []) n [] m.loose j (λ e. refl) (λ d. s.stops.resting j (sym (put_other n Up m.mode j d) ∙ still)))
+      (λ key t how had still. s.stops.owners key t how had (at_or_off (λ mode. mode ≡ Idle → m.mode t.node.0 ≡ Idle) n Up m.mode t.node.0 (λ e is. absurd cc) (λ d is. is) still)) (λ j used. inside j used (cases_eq j n)));
 }
   where
+    inside : (j : ℕ) → put n Up m.mode j ≢ Idle → (j ≡ n) ⊎ (j ≢ n) → (1 ≤ j) × (j ≤ m.shape.nodes)
+    inside j used (inl e) = (omega (arith, low, e), omega (arith, high, e))
+    inside j used (inr d) = s.stops.nodes j (λ is. used (put_other n Up m.mode j d ∙ is))
+
     same : (j : ℕ) → (j ≡ n) ⊎ (j ≢ n) → put n [] m.loose j ≡ m.loose j
     same j (inl e) = put_same n [] m.loose j e ∙ sym (s.stops.resting j (ap m.mode e ∙ rest))
     same j (inr d) = put_other n [] m.loose j d
@@ -194,9 +217,15 @@ locked_survives dirty h p m key t mode s busy free =
         means = means_locked p m key t mode free s.means;
         stops = subst (MayStop (with_stable h.devices.disk h.stable l.0 h) (one (part.Lock key t mode) m)) (sym l.2)
             (still_stops h m s.recoverable.begun h.devices.disk h.stable l.0 m.mode m.reopening (taken m.locks key t mode) m.hold m.loose s.stops (λ j. omega arith) (λ j c le lt. refl) s.stops.enough
-            (λ j k seat other at any e. keeps_write dirty h p m key t mode s.recoverable s.means busy free (seat_of j seat) other e) s.stops.resting);
+            (λ j k seat other at any e. keeps_write dirty h p m key t mode s.recoverable s.means busy free (seat_of j seat) other e) s.stops.resting
+            (λ other u how had rest. owned other u how had rest (get-taken m.locks key t mode (lock other u))) s.stops.nodes);
       },
     )
+  where
+    owned : (other : Key) (u : TxnId) (how : Mode) → mode_of (taken m.locks key t mode) other u ≡ Some how → m.mode u.node.0 ≡ Idle
+        → ((lock other u ≡ lock key t) × (finite.get (taken m.locks key t mode) (lock other u) ≡ Some (raised (mode_of m.locks key t) mode))) ⊎ (finite.get (taken m.locks key t mode) (lock other u) ≡ finite.get m.locks (lock other u)) → ⊥
+    owned other u how had rest (inl z) = s.recoverable.idle t (ap (λ (l : Lock). m.mode l.txn.node.0) (sym z.0) ∙ rest) (inl busy)
+    owned other u how had rest (inr z) = s.stops.owners other u how (sym z ∙ had) rest
 
 -- Where nothing of a node is loose, its log is stable, and the deeds at its one cut are those of the machine.
 pub nothing_loose : (h : History) (m : Machine) (begun : ℕ → ℕ → ℕ) (n k : ℕ) → MayStop h m begun → m.loose n ≡ [] → IsPlaceToCut h n k → deeds_at h m n k ≡ m.pending n
@@ -210,7 +239,8 @@ unlocked_survives dirty h p m t s closed alone none nothing = (
     means = means_unlocked p m t nothing s.means;
     stops = subst (MayStop (with_stable h.devices.disk h.stable (λ x k. but dirty h p m t s.recoverable closed alone (h.lock x k)) h) (one (part.Unlock t) m)) (sym (unlocked_begun dirty h p m t s.recoverable closed alone))
         (still_stops h m s.recoverable.begun h.devices.disk h.stable (λ x k. but dirty h p m t s.recoverable closed alone (h.lock x k)) m.mode m.reopening (without_txn t m.locks) m.hold m.loose s.stops (λ j. omega arith) (λ j c le lt. refl) s.stops.enough
-        (λ j k seat key at any e. kept j k seat key at any e (same_or_not t (seat_of j seat))) s.stops.resting);
+        (λ j k seat key at any e. kept j k seat key at any e (same_or_not t (seat_of j seat))) s.stops.resting
+        (λ key u how had. s.stops.owners key u how (lock_was (λ l mode. not (same_txn l.txn t)) m.locks key u how had)) s.stops.nodes);
   },
 )
   where
@@ -241,5 +271,7 @@ formatted_survives s legal = record {
     }));
     used = λ x cut at used. refl;
     resting = λ n rest. refl;
+    owners = λ key t mode had. (let never : None ≡ Some mode = sym (finite.get-empty lock_cmp (lock key t)) ∙ had in absurd cc);
+    nodes = λ n used. absurd (used refl);
   };
 }

@@ -245,6 +245,7 @@ module _ (dirty : ℕ → Bool) (h : History) (p : Plain) (m : Machine) (n cut :
   logs_after = record {
     tail = λ j. tail j (cases_eq j n);
     deeds = λ j. subst (λ f. AreLogged f (h'.live j) (λ seat. m.records) (m'.pending j)) (s.recoverable.first j) (told dirty h p m n cut s place j).deeds;
+    rising = λ j. (told dirty h p m n cut s place j).rising;
     homes = λ t. homes_after t.node.0 (length (h'.live t.node.0)) (record { low = (is_end dirty h p m n cut s place t.node.0).0; high = omega arith }) (m'.pending t.node.0)
         (subst (λ l. TellsLog m s.recoverable.begun t.node.0 (h.devices.first t.node.0) l (m'.pending t.node.0)) (sym (logs_end t.node.0)) (told dirty h p m n cut s place t.node.0));
   }

@@ -7,13 +7,14 @@ use Rattle.sd_base.specs.declared.names.Key.{Key}
 use Rattle.sd_base.specs.declared.names.TxnId.{TxnId}
 use Rattle.record_locks.specs.declared.mode.Mode.{Mode}
 use Rattle.record_locks.specs.declared.mode.Mode.TheVariants as locks
-use Rattle.record_locks.specs.Held.{Held, is_write, mode_of, passing, without_reads_of}
+use Rattle.record_locks.specs.Held.{Held, is_write, locks_where, mode_of, passing, without_reads_of}
 use Rattle.record_locks.specs.Order.{Lock, lock, lock_cmp}
 use Rattle.record_locks.proofs.HeldLaws.{get-locks_where}
-use Rattle.record_machine.specs.Machine.{Deed, Down, IdentBefore, LooseChange, Machine}
+use Rattle.record_locks.proofs.OrderLaws.{lock_cmp_antisymmetric, lock_cmp_total}
+use Rattle.record_machine.specs.Machine.{Deed, Down, IdentBefore, LooseChange, Machine, put}
 use Rattle.record_machine.specs.Parts.{is_of_page}
-use Rattle.record_machine.specs.Stops.{any_up, ident_before, pending_before, stop, tail_before, with_idents}
-use Rattle.record_machine.proofs.Put.{put_other}
+use Rattle.record_machine.specs.Stops.{any_up, ident_before, pending_before, stop, stop_in_undo, tail_before, with_idents}
+use Rattle.record_machine.proofs.Put.{at_or_off, put_other, put_same}
 
 -- ---- other nodes
 
@@ -77,17 +78,25 @@ other_stays m h key t true is other = mode_without m h key t ∙ by (mode_of m k
     by None = refl
     by (Some mode) = rw (ne_eqb t.node.0 h other) refl
 
-pub none_new : (m : Held) (h : ℕ) (key : Key) (t : TxnId) (mode : Mode) (up : Bool) → mode_of (locks_after up h m) key t ≡ Some mode → mode_of m key t ≡ Some mode
-none_new m h key t mode false has = let never : None ≡ Some mode = sym (finite.get-empty lock_cmp (lock key t)) ∙ has in cc
-none_new m h key t mode true has = by (mode_of m key t) (sym (mode_without m h key t) ∙ has)
+-- a lock that isn't dropped was there
+pub lock_was : (test : Lock → Mode → Bool) (m : Held) (key : Key) (t : TxnId) (mode : Mode) → mode_of (locks_where test m) key t ≡ Some mode → mode_of m key t ≡ Some mode
+lock_was test m key t mode has = by (mode_of m key t) (sym (get-locks_where test m (lock key t)) ∙ has)
   where
     when : (b : Bool) (old : Mode) → (if b then Some old else None) ≡ Some mode → Some old ≡ Some mode
     when true old is = is
     when false old is = cc
 
-    by : (o : Option Mode) → passing (reads_of h) (lock key t) o ≡ Some mode → o ≡ Some mode
+    by : (o : Option Mode) → passing test (lock key t) o ≡ Some mode → o ≡ Some mode
     by None is = cc
-    by (Some old) is = when (reads_of h (lock key t) old) old is
+    by (Some old) is = when (test (lock key t) old) old is
+
+pub none_new : (m : Held) (h : ℕ) (key : Key) (t : TxnId) (mode : Mode) (up : Bool) → mode_of (locks_after up h m) key t ≡ Some mode → mode_of m key t ≡ Some mode
+none_new m h key t mode false has = let never : None ≡ Some mode = sym (finite.get-empty lock_cmp (lock key t)) ∙ has in cc
+none_new m h key t mode true has = lock_was (reads_of h) m key t mode has
+
+-- of no locks none is left
+pub nothing_left : (test : Lock → Mode → Bool) → locks_where test finite.empty ≡ finite.empty
+nothing_left test = finite.same_map lock_cmp_total lock_cmp_antisymmetric _ _ (λ l. get-locks_where test finite.empty l ∙ (ap (passing test l) (finite.get-empty lock_cmp l) ∙ sym (finite.get-empty lock_cmp l)))
 
 module _ (m : Machine) (h kept : ℕ) where
   pub stop_others : (n : ℕ) → n ≢ h → ((stop h kept m).mode n ≡ m.mode n) × ((stop h kept m).pending n ≡ m.pending n) × ((stop h kept m).tail n ≡ m.tail n) × ((stop h kept m).loose n ≡ m.loose n)
@@ -104,3 +113,7 @@ module _ (m : Machine) (h kept : ℕ) where
 
   pub stop_none_new : (key : Key) (t : TxnId) (mode : Mode) → mode_of (stop h kept m).locks key t ≡ Some mode → mode_of m.locks key t ≡ Some mode
   stop_none_new key t mode has = none_new m.locks h key t mode (any_up (stop h kept m)) has
+
+-- in an undo two nodes go down
+pub stop_both : (m : Machine) (u h kept : ℕ) → ((stop_in_undo u h kept m).mode u ≡ Down) × ((stop_in_undo u h kept m).mode h ≡ Down)
+stop_both m u h kept = (put_same u Down (put h Down m.mode) u refl, at_or_off (λ mode. mode ≡ Down) u Down (put h Down m.mode) h (λ e. refl) (λ d. put_same h Down m.mode h refl))

@@ -15,11 +15,11 @@ use Rattle.recovery_theory.proofs.Cuts.{set_at-other, set_at-same}
 use Rattle.recovery_theory.proofs.Headroom.{stop_keeps_rising}
 use Rattle.recovery_theory.proofs.Room.{stop_keeps_room}
 use Rattle.record_machine.specs.Cuts.{MayStop, Survives, TakesBackTo, TellsLog, behind_cut, deeds_at, seat_of, touches}
-use Rattle.record_machine.specs.Machine.{Deed, Down, Idle, LooseChange, Machine, NodeMode, Up, is_begin_in, is_busy, writes_page}
+use Rattle.record_machine.specs.Machine.{Deed, Down, Idle, LooseChange, Machine, NodeMode, Up, is_begin_in, is_busy, writes_page, put}
 use Rattle.record_machine.specs.Meaning.{Plain, first_record}
-use Rattle.record_machine.specs.Recoverable.{HasSeat, IsKnown, IsStored, Recoverable, TellsSeat}
+use Rattle.record_machine.specs.Recoverable.{HasSeat, IsKeptBy, IsKnown, IsStored, Recoverable, TellsSeat}
 use Rattle.record_machine.specs.Stops.{entries_before, halted, ident_before, pending_before, tail_before}
-use Rattle.record_machine.proofs.Put.{put_other, put_same}
+use Rattle.record_machine.proofs.Put.{at_or_off, put_other, put_same}
 use Rattle.record_machine.proofs.StopMeans.{homes_after, means_after}
 use Rattle.record_machine.proofs.StopPages.{entry_here, entry_other, held, home_back, ident_is, image_here, image_other, live_other, long, map_is, off, page_is, plain_after, told}
 use Rattle.record_machine.proofs.StopSteps.{idents_left, none_new, pending_others, tail_others, write_stays}
@@ -73,6 +73,10 @@ module _ (dirty : ℕ → Bool) (h : History) (p : Plain) (m : Machine) (n cut :
       go (inl e) = absurd (not (sym (put_same n Down m.mode j e) ∙ is))
       go (inr d) = (d, sym (put_other n Down m.mode j d) ∙ is)
 
+  keeps : {x : ℕ} (g : ℕ) → IsKeptBy m x g → IsKeptBy m' x g
+  keeps g (inl z) = inl (z.0, at_or_off (λ mode. mode ≢ Idle) n Down m.mode g (λ same e. absurd cc) (λ off. z.1))
+  keeps g (inr z) = inr (z.0, at_or_off (λ mode. mode ≡ Down) n Down m.mode g (λ same. refl) (λ off. z.1))
+
   recoverable_after : Recoverable dirty h' q m'
   recoverable_after = record {
     holds = held dirty h p m n cut s place;
@@ -93,6 +97,7 @@ module _ (dirty : ℕ → Bool) (h : History) (p : Plain) (m : Machine) (n cut :
     locked = λ t key x is mode. s.recoverable.locked t key x (home_back dirty h p m n cut s place key.0 x is) (none_new m.locks n key t locks.Write true mode);
     locker = λ o key x is e. (let l = s.recoverable.locker o key x (home_back dirty h p m n cut s place key.0 x is) e in (l.0, write_stays m.locks n key l.0 true refl l.1, l.2));
     idle = λ t rest k. s.recoverable.idle t (modes t.node.0 Idle (λ e. cc) rest).1 (known t k);
+    holder = λ x e. keeps (h.guard x) (s.recoverable.holder x e);
   }
 
   -- ---- the next stop
@@ -102,6 +107,7 @@ module _ (dirty : ℕ → Bool) (h : History) (p : Plain) (m : Machine) (n cut :
       → TellsLog m' s.recoverable.begun j (h.devices.first j) (take c (h'.live j)) ds
   told_after j c at ds tells busy = record {
     deeds = tells.deeds;
+    rising = tells.rising;
     homes = homes_after dirty h p m n cut s place j c at ds tells;
     locked = λ seat key any. write_stays m.locks n key (seat_of j seat) true refl (tells.locked seat key any);
     opened = tells.opened;
@@ -182,22 +188,28 @@ module _ (dirty : ℕ → Bool) (h : History) (p : Plain) (m : Machine) (n cut :
           ap (h.entry x) c_is ∙ sym (entry_here dirty h p m n cut s place x g)
       go (inr d) = s.stops.used x c (record { low = rw (set_at-other n cut h.stable (h.guard x) d) at at.low; high = rw (live_other dirty h p m n cut s place (h.guard x) d) at at.high }) used ∙ sym (entry_other dirty h p m n cut s place x d)
 
-  stops_after : MayStop h' m' s.recoverable.begun
-  stops_after = record {
+  stops_after : m.mode n ≢ Idle → MayStop h' m' s.recoverable.begun
+  stops_after working = record {
     enough = λ j. enough j (cases_eq j n);
     back = λ j c at. back j c at (cases_eq j n);
     used = used_after;
     resting = λ j rest. (let z = modes j Idle (λ e. cc) rest in put_other n [] m.loose j z.0 ∙ s.stops.resting j z.1);
+    owners = λ key t mode had rest. s.stops.owners key t mode (none_new m.locks n key t mode true had) (modes t.node.0 Idle (λ e. cc) rest).1;
+    nodes = λ j used. nodes j used (cases_eq j n);
   }
     where
       enough : (j : ℕ) → (j ≡ n) ⊎ (j ≢ n) → length (h'.live j) ≤ h'.stable j + length (m'.loose j)
       enough j (inl e) = subst (λ k. length (h'.live k) ≤ h'.stable k + length (m'.loose k)) (sym e) (rw (set_at-same n cut h.stable) (omega (arith, long dirty h p m n cut s place)))
       enough j (inr d) = rw (live_other dirty h p m n cut s place j d, set_at-other n cut h.stable j d, put_other n [] m.loose j d) (s.stops.enough j)
 
+      nodes : (j : ℕ) → put n Down m.mode j ≢ Idle → (j ≡ n) ⊎ (j ≢ n) → (1 ≤ j) × (j ≤ m.shape.nodes)
+      nodes j used (inl e) = s.stops.nodes j (λ rest. working (ap m.mode (sym e) ∙ rest))
+      nodes j used (inr d) = s.stops.nodes j (λ rest. used (put_other n Down m.mode j d ∙ rest))
+
       back : (j c : ℕ) → IsPlaceToCut h' j c → (j ≡ n) ⊎ (j ≢ n) → TakesBackTo h' m' s.recoverable.begun j c
       back j c at (inl e) = subst (λ k. (c : ℕ) → IsPlaceToCut h' k c → TakesBackTo h' m' s.recoverable.begun k c) (sym e) back_here c at
       back j c at (inr d) = back_other j d c at
 
-  pub survives_halt : Survives dirty h' q m'
+  pub survives_halt : m.mode n ≢ Idle → Survives dirty h' q m'
   unfolding recoverable_after
-  survives_halt = record { recoverable = recoverable_after; means = means_after dirty h p m n cut s place; stops = stops_after }
+  survives_halt working = record { recoverable = recoverable_after; means = means_after dirty h p m n cut s place; stops = stops_after working }

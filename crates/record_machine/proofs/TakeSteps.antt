@@ -1,11 +1,15 @@
 -- Pages that are taken change only who holds them.
 use Rattle.std.specs.Prelude.{◌≡◌, ◌++◌, ◌∷◌, [], ⊤, ℕ, zero, suc, List, Option, Some, None, reverse, take, refl}
 use Rattle.std.specs.List.{flat_map}
+use Rattle.std.proofs.Common.{ap, ◌∙◌}
+use Rattle.sd_base.specs.declared.names.TxnId.{TxnId}
 use Rattle.script_text.specs.declared.command.Command.{Command}
 use Rattle.script_text.specs.declared.command.Command.TheVariants as asks
-use Rattle.record_machine.specs.Commands.{takes, takes_both, takes_written, target}
+use Rattle.record_machine.specs.Commands.{backs, parts, takes, takes_back, takes_both, takes_written, target}
 use Rattle.record_machine.specs.Machine.{Deed, LooseChange, Machine, Write, home, put, writes_of}
 use Rattle.record_machine.specs.Parts.{Part, Start, Take, Drop, Begin, Use, FreePlace, Lock, Change, Back, Seal, Unlock, Sure, dos, loose_after_take}
+use Rattle.record_machine.proofs.BackSteps.{all_undone}
+use Rattle.record_machine.proofs.Steps.{dos-then}
 
 -- ---- lists of pages that are taken
 
@@ -86,3 +90,10 @@ holds_only (Sure n ∷ ps) m all = absurd all
 
 pub only_holds : (m : Machine) (c : Command) (count : ℕ) → (hold : ℕ → Option ℕ) × (loose : ℕ → List LooseChange) × (dos (take count (takes m c)) m ≡ record m { hold = hold; loose = loose })
 only_holds m c count = holds_only (take count (takes m c)) m (some_of count (takes m c) (are_takes m c))
+
+-- So an abort changes no record: it takes its pages, takes all back that its transaction has written, and ends it.
+pub aborted_records : (m : Machine) (t : TxnId) (key : ℕ) → (dos (parts m (asks.Abort t)) m).records key ≡ m.records key
+aborted_records m t key =
+    let it = holds_only (takes_back m t) m (written_pages m t.node.0 (reverse (writes_of m t))) in
+    let there : Machine = record m { hold = it.0; loose = it.1 } in
+    ap (λ k. k.records key) (dos-then (takes_back m t ++ backs m t) (Seal t ∷ Unlock t ∷ []) m ∙ ap (dos (Seal t ∷ Unlock t ∷ [])) (dos-then (takes_back m t) (backs m t) m ∙ ap (dos (backs m t)) it.2)) ∙ all_undone there t key

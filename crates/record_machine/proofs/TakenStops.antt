@@ -138,6 +138,8 @@ module _ (dirty : ℕ → Bool) (h : History) (p : Plain) (m : Machine) (x n : �
     back = back;
     used = λ y k at in_use. used y k at in_use (cases_eq y x);
     resting = λ j rest. resting j rest (few j);
+    owners = s.stops.owners;
+    nodes = s.stops.nodes;
   }
     where
       used : (y k : ℕ) → IsPlaceToCut h' (set_at x n h.guard y) k → is_used (h'.entry y k) ≡ true → (y ≡ x) ⊎ (y ≢ x) → h'.entry y k ≡ entry_now h' y

@@ -55,11 +55,12 @@ module _ (dirty : ℕ → Bool) (h : History) (p : Plain) (m : Machine) (r : Rec
   pub told_now : AreOpened m → (j : ℕ) → TellsLog m r.begun j (h.devices.first j) (h.live j) (m.pending j)
   told_now opened j = record {
     deeds = subst (λ l. AreLogged (h.devices.first j) l (λ seat. m.records) (m.pending j)) (sym (r.live j)) (subst (λ f. AreLogged f (p.live j) (λ seat. m.records) (m.pending j)) (sym (r.first j)) (means.logs.deeds j));
+    rising = means.logs.rising j;
     homes = means.logs.homes (seat_of j 0);
     locked = λ seat key any. means.locked.written (seat_of j seat) key any;
     opened = opened j;
     still = λ seat b. b;
-    seats = λ seat b. (let z = r.seats (seat_of j seat) b in record { left = z.left; going = z.going; begins = z.begins; writes = z.writes });
+    seats = λ seat b. r.seats (seat_of j seat) b;
     opens = λ txn left e. (let z = r.opens j txn left e in (z.who.seat, subst (λ k. list_any (is_begin_in z.who.seat) (m.pending k) ≡ true) z.node z.busy, subst (λ k. r.begun k z.who.seat ≡ txn) z.node z.begins));
     seen = seen;
   }

@@ -172,6 +172,7 @@ logs_used n place p m rec key map none free pages was = record {
   deeds = λ k. at_or_off (λ recs. AreLogged (first_record m k) recs (λ seat. m.records) (m.pending k)) n (p.live n ++ rec ∷ []) p.live k
       (λ same. subst (λ i. AreLogged (first_record m k) (p.live i ++ rec ∷ []) (λ seat. m.records) (m.pending k)) same (logged-longer (first_record m k) (p.live k) rec (λ seat. m.records) (m.pending k) (was.deeds k)))
       (λ other. was.deeds k);
+  rising = was.rising;
   homes = λ t i d low. kept (slice_index_or (m.pending t.node.0) i d).write (was.homes t i d low);
 }
   where

@@ -86,7 +86,7 @@ module _ (dirty : ℕ → Bool) (h : History) (p : Plain) (m : Machine) (n key p
   dirty' = put (page_of_place m.shape (map_of_key m.shape key) place) true (put (map_of_key m.shape key) true dirty)
 
   abbrev r' : Recoverable dirty' h' p' m'
-  r' = used_now dirty h p m n key place rec map s.recoverable s.means none free held_map held_page is fits new
+  r' = used_now dirty h p m n key place rec map s.recoverable s.means none free held_map held_page is fits new up
 
   means' : Means p' m'
   means' = means_used p m n place key rec map none free used s.means
@@ -123,6 +123,7 @@ module _ (dirty : ℕ → Bool) (h : History) (p : Plain) (m : Machine) (n key p
     mode = λ j. refl;
     loose_here = put_same n (m.loose n ++ before n (mp ∷ []) (Some mp) m ∷ []) m.loose n refl;
     loose_other = λ j d. put_other n (m.loose n ++ before n (mp ∷ []) (Some mp) m ∷ []) m.loose j d;
+    locks = refl;
     pending_other = λ j d. refl;
     tail_other = λ j d. put_other n (m.tail n + 1) m.tail j d;
     number = refl;
@@ -165,7 +166,7 @@ module _ (dirty : ℕ → Bool) (h : History) (p : Plain) (m : Machine) (n key p
     kept = λ y k e le how. kept y k (untouched y e) le how (cases_eq y x);
     told = λ j k ds at tells. told_still m m' s.recoverable.begun s.recoverable.begun j (h.devices.first j) (take k (h.live j)) ds tells
         (λ seat other any. refl) (λ other y e. home_same other y e ∙ e) (λ seat other y any e. (let z = written_home m seat other ds tells.homes any in sym (home_same other z.0 z.1) ∙ e)) (λ seat other any e. e) (λ seat any e. e) (λ seat any. refl);
-    now = subst (λ b. TellsLog m' b n (h.devices.first n) (h'.live n) (m'.pending n)) (used_begun dirty h p m n key place rec map s.recoverable s.means none free held_map held_page is fits new) (told_now dirty' h' p' m' r' means' opened' n);
+    now = subst (λ b. TellsLog m' b n (h.devices.first n) (h'.live n) (m'.pending n)) (used_begun dirty h p m n key place rec map s.recoverable s.means none free held_map held_page is fits new up) (told_now dirty' h' p' m' r' means' opened' n);
     tail = tail_now dirty' h' p' m' r' means' n;
     ident_is = ident_now dirty' h' p' m' r' means';
     entries_are = entries_now dirty' h' p' m' r' means';
@@ -182,7 +183,7 @@ module _ (dirty : ℕ → Bool) (h : History) (p : Plain) (m : Machine) (n key p
   used_here = record {
     recoverable = r';
     means = means';
-    stops = subst (MayStop h' m') (sym (used_begun dirty h p m n key place rec map s.recoverable s.means none free held_map held_page is fits new)) (logged_stops h m m' s.recoverable.begun s.recoverable.begun n rec (before n (mp ∷ []) (Some mp) m) entry' (set_at mp (changed (MapUse place (group_of key)) (image_now h mp)) (image_now h)) last' lock' s.stops (s.recoverable.holds.history.sound n) grows log);
+    stops = subst (MayStop h' m') (sym (used_begun dirty h p m n key place rec map s.recoverable s.means none free held_map held_page is fits new up)) (logged_stops h m m' s.recoverable.begun s.recoverable.begun n rec (before n (mp ∷ []) (Some mp) m) entry' (set_at mp (changed (MapUse place (group_of key)) (image_now h mp)) (image_now h)) last' lock' s.stops (s.recoverable.holds.history.sound n) grows log);
   }
 
 pub used_survives : UsedSurvives

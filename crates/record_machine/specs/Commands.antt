@@ -1,5 +1,5 @@
 -- What a command is answered, and what it does.
-use Rattle.std.specs.Prelude.{◌≡◌, ◌≤◌, ◌^◌, ◌-◌, ◌/◌, ◌++◌, ◌∷◌, [], ℕ, Bool, true, false, not, nat_le, nat_lt, List, Option, Some, None, length, option_map, replicate, reverse, unwrap_or, if◌then◌else◌}
+use Rattle.std.specs.Prelude.{◌≡◌, ◌≤◌, ◌^◌, ◌++◌, ◌∷◌, [], ℕ, Bool, true, false, not, nat_le, nat_lt, List, Option, Some, None, length, option_map, replicate, reverse, unwrap_or}
 use Rattle.std.specs.List.{flat_map}
 use Rattle.sd_base.specs.declared.device.NodeId.{NodeId}
 use Rattle.sd_base.specs.declared.names.Key.{Key}
@@ -16,17 +16,17 @@ use Rattle.script_text.specs.declared.command.Command.TheVariants as asks
 use Rattle.script_text.specs.declared.reply.Reply.{Reply}
 use Rattle.script_text.specs.declared.reply.Reply.TheVariants as says
 use Rattle.record_machine.specs.Machine.{Deed, Machine, NodeMode, Write, Idle, Up, Down, Redone, free_place, home, is_busy, is_idle, is_up, new_home, owed, room, seen, used, writes_of}
-use Rattle.record_machine.specs.Parts.{Part, Start, Take, Begin, Use, Lock, Change, Back, Seal, Unlock, dos}
+use Rattle.record_machine.specs.Parts.{Part, Start, Take, Begin, Use, Lock, Change, Back, Seal, Unlock}
 
 -- ---- refusals
 
 -- this reply, where it is refused for this
-abbrev pub where_so : Bool → Reply → Option Reply
+abbrev pub where_so : {R : Type 0} → Bool → R → Option R
 where_so true why = Some why
 where_so false why = None
 
 -- the first refusal of a list
-abbrev pub first_of : List (Option Reply) → Option Reply
+abbrev pub first_of : {R : Type 0} → List (Option R) → Option R
 first_of [] = None
 first_of (None ∷ more) = first_of more
 first_of (Some why ∷ more) = Some why
@@ -101,22 +101,6 @@ no_deletion m t key = of_record (seen m t key) (home m key)
     of_record None x = None
     of_record (Some value) None = None
     of_record (Some value) (Some x) = first_of (at_limit m x ∷ no_room m t.node 2 ∷ [])
-
--- why a command is refused, if it is: the first of these reasons that there is
-abbrev pub refusal : Machine → Command → Option Reply
-refusal m (asks.Format s) = Some says.Formatted
-refusal m (asks.Start n) = first_of (no_node m n ∷ not_idle m n ∷ [])
-refusal m (asks.Begin t) = first_of (no_node m t.node ∷ not_up m t.node ∷ busy m t ∷ no_room m t.node 2 ∷ [])
-refusal m (asks.Get t key) = first_of (no_node m t.node ∷ not_up m t.node ∷ no_txn m t ∷ no_lock m key t locks.Read ∷ [])
-refusal m (asks.Put t key value) = first_of (no_node m t.node ∷ not_up m t.node ∷ no_txn m t ∷ no_lock m key t locks.Write ∷ no_page m t.node key.0 None ∷ [])
-refusal m (asks.Commit t) = first_of (no_node m t.node ∷ not_up m t.node ∷ no_txn m t ∷ [])
-refusal m asks.Bad = Some says.Bad
-refusal m (asks.Append t key bytes) = first_of (no_node m t.node ∷ not_up m t.node ∷ no_txn m t ∷ no_lock m key t locks.Write ∷ no_page m t.node key.0 (too_long (seen m t key.0) bytes) ∷ [])
-refusal m (asks.Del t key) = first_of (no_node m t.node ∷ not_up m t.node ∷ no_txn m t ∷ no_lock m key t locks.Write ∷ no_deletion m t key.0 ∷ [])
-refusal m (asks.Flush n) = first_of (no_node m n ∷ not_up m n ∷ [])
-refusal m (asks.Stat n) = no_node m n
-refusal m (asks.Abort t) = first_of (no_node m t.node ∷ not_up m t.node ∷ no_txn m t ∷ [])
-refusal m (asks.Dump n) = first_of (no_node m n ∷ not_up m n ∷ any_lock m ∷ [])
 
 -- ---- what is done
 
@@ -243,7 +227,7 @@ MayAnswer m (asks.Stat n) r = TellsNode m n.0 r
 MayAnswer m (asks.Dump n) r = ⊥
 MayAnswer m c r = r ≡ says.Fine
 
--- ---- a step
+-- ---- when a refusal is met
 
 -- the refusals that a command on a record meets only once it has taken its pages: for what is in them, for the value, and
 -- for the room of the log, which is tested last
@@ -253,15 +237,3 @@ needs_pages (says.NoSpace x) = true
 needs_pages (says.TooLong len) = true
 needs_pages (says.LogFull need room) = true
 needs_pages why = false
-
--- a command that is refused so has taken all of its pages, and one that is refused for anything else none
-abbrev pub Stayed : Machine → Command → Reply → (Machine → Type 0) → Type 0
-Stayed m c why S = S (dos (if needs_pages why then takes m c else []) m)
-
--- From m the machine may answer a command so, and go on to a state of S.
-abbrev pub Step : Machine → Command → Reply → (Machine → Type 0) → Type 0
-Step m c r S = by (refusal m c)
-  where
-    by : Option Reply → Type 0
-    by None = MayAnswer m c r × S (dos (parts m c) m)
-    by (Some why) = (r ≡ why) × Stayed m c why S

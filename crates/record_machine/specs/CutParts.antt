@@ -28,7 +28,7 @@ use Rattle.recovery_theory.specs.Room.{HasRoom}
 use Rattle.recovery_theory.specs.Rules.{RuleOf}
 use Rattle.recovery_theory.specs.Steps as step
 use Rattle.record_machine.specs.Cuts.{Survives, SurvivesAs}
-use Rattle.record_machine.specs.Machine.{Deed, Idle, Machine, Up, Write, deeds_of, formatted, free_place, home, is_busy, newest_of, owed, put, seen}
+use Rattle.record_machine.specs.Machine.{Deed, Idle, Machine, Redone, Up, Write, deeds_of, formatted, free_place, home, is_busy, newest_of, owed, put, seen}
 use Rattle.record_machine.specs.Meaning.{IsChangedAt, IsUsed, Plain, Tells, born, has_written, logged, with_map, with_page}
 use Rattle.record_machine.specs.Parts.{Back, Begin as Begins, Change, Drop, Lock, Seal, Start, Sure, Take, Unlock, Use, one}
 use Rattle.record_machine.specs.Recoverable.{IsKnown}
@@ -38,25 +38,28 @@ use Rattle.record_machine.specs.Stops.{halted, stop, stop_in_undo}
 abbrev pub FormattedSurvives : Type 0
 FormattedSurvives = (s : Shape) → IsShape s → Survives (λ x. false) (step.started s) (born s) (formatted s)
 
--- Node n stops, and its log is cut anywhere behind what is stable. The machine has kept so many of its loose changes: what it is
+-- Node n, which is in use, stops, and its log is cut anywhere behind what is stable. The machine has kept so many of its loose changes: what it is
 -- then, but for tables that are lost, is what the shorter logs and their pages mean, and it survives the next stop too.
 abbrev pub StoppedSurvives : Type 0
-StoppedSurvives = (dirty : ℕ → Bool) (h : History) (p : Plain) (m : Machine) (n cut : ℕ) → Survives dirty h p m → step.IsPlaceToCut h n cut
+StoppedSurvives = (dirty : ℕ → Bool) (h : History) (p : Plain) (m : Machine) (n cut : ℕ) → Survives dirty h p m → m.mode n ≢ Idle → step.IsPlaceToCut h n cut
     → (kept : ℕ) × (kept ≤ length (m.loose n)) × (q : Plain) × Survives dirty (step.stopped h n cut) q (halted n kept m)
 
--- so it is where the stop loses the tables, since no node is up: the locks to write stay in the history
+-- So it is where the stop loses the tables, since no node is up: the locks to write stay in the history. No page that a node which is
+-- redone logs is changed in memory then,
 abbrev pub StoppedWithTables : Type 0
-StoppedWithTables = (held : Held) (dirty : ℕ → Bool) (h : History) (p : Plain) (m : Machine) (n cut : ℕ) → SurvivesAs held dirty h p m → step.IsPlaceToCut h n cut
+StoppedWithTables = (held : Held) (dirty : ℕ → Bool) (h : History) (p : Plain) (m : Machine) (n cut : ℕ) → SurvivesAs held dirty h p m → m.mode n ≢ Idle → step.IsPlaceToCut h n cut
+    → ((x : ℕ) → dirty x ≡ true → m.mode (h.guard x) ≢ Redone)
     → (kept : ℕ) × (kept ≤ length (m.loose n)) × (q : Plain) × SurvivesAs (without_reads_of (record { 0 = n }) held) dirty (step.stopped h n cut) q (stop n kept m)
 
--- and so where it stops as it takes back the open transactions of node u
+-- but for one of node u, where it stops as it takes back the open transactions of that one.
 abbrev pub StoppedInUndo : Type 0
-StoppedInUndo = (held : Held) (dirty : ℕ → Bool) (h : History) (p : Plain) (m : Machine) (u n cut : ℕ) → SurvivesAs held dirty h p m → step.IsPlaceToCut h n cut
+StoppedInUndo = (held : Held) (dirty : ℕ → Bool) (h : History) (p : Plain) (m : Machine) (u n cut : ℕ) → SurvivesAs held dirty h p m → m.mode u ≢ Idle → m.mode n ≢ Idle → step.IsPlaceToCut h n cut
+    → ((x : ℕ) → dirty x ≡ true → m.mode (h.guard x) ≡ Redone → h.guard x ≡ u)
     → (kept : ℕ) × (kept ≤ length (m.loose n)) × (q : Plain) × SurvivesAs (without_reads_of (record { 0 = n }) held) dirty (step.stopped h n cut) q (stop_in_undo u n kept m)
 
--- a node that isn't in use comes up
+-- a node of the store that isn't in use comes up
 abbrev pub StartedSurvives : Type 0
-StartedSurvives = (dirty : ℕ → Bool) (h : History) (p : Plain) (m : Machine) (n : ℕ) → Survives dirty h p m → m.mode n ≡ Idle → Survives dirty h p (one (Start n) m)
+StartedSurvives = (dirty : ℕ → Bool) (h : History) (p : Plain) (m : Machine) (n : ℕ) → Survives dirty h p m → m.mode n ≡ Idle → 1 ≤ n → n ≤ m.shape.nodes → Survives dirty h p (one (Start n) m)
 
 -- a page that isn't changed in memory goes to node n, and a data page only where its map page is that node's
 abbrev pub TakenSurvives : Type 0
@@ -65,9 +68,9 @@ TakenSurvives = (dirty : ℕ → Bool) (h : History) (p : Plain) (m : Machine) (
     → ((map place : ℕ) → map < m.shape.maps → place < pages_per_map → x ≡ page_of_place m.shape map place → m.hold map ≡ Some n)
     → Survives dirty (step.passed h x n) p (one (Take x n) m)
 
--- nobody holds a page any more
+-- nobody holds a page any more, which isn't changed in memory
 abbrev pub DroppedSurvives : Type 0
-DroppedSurvives = (dirty : ℕ → Bool) (h : History) (p : Plain) (m : Machine) (x : ℕ) → Survives dirty h p m → Survives dirty h p (one (Drop x) m)
+DroppedSurvives = (dirty : ℕ → Bool) (h : History) (p : Plain) (m : Machine) (x : ℕ) → Survives dirty h p m → dirty x ≡ false → Survives dirty h p (one (Drop x) m)
 
 -- more of a log is stable
 abbrev pub ForcedSurvives : Type 0

@@ -1,5 +1,6 @@
 -- Where a stop may cut a node's log: which changes of the machine it takes back then, and what the shorter log says.
-use Rattle.std.specs.Prelude.{◌≡◌, ◌≢◌, ◌⊎◌, ◌==◌, ◌||◌, ◌+◌, ◌-◌, ◌<◌, ◌≤◌, ◌∷◌, ℕ, Bool, true, false, List, [], All, IfSome, Option, Some, None, drop, filter, is_none, is_some, length, map, reverse, take}
+use Rattle.std.specs.Prelude.{◌≡◌, ◌≢◌, ◌⊎◌, ◌==◌, ◌||◌, ◌+◌, ◌-◌, ◌<◌, ◌≤◌, ℕ, Bool, true, false, List, [], All, IfSome, Option, Some, None, drop, length, take}
+use Rattle.std.specs.FinMap as finite
 use Rattle.recovery_theory.specs.Pages.{is_used}
 use Rattle.std.specs.List.{count_by, list_any}
 use Rattle.sd_base.specs.declared.names.Key.{Key}
@@ -14,14 +15,13 @@ use Rattle.space_map.specs.Image.{MapImage}
 use Rattle.space_map.specs.PageImage.{ident_of, map_page}
 use Rattle.recovery_theory.specs.Effect.{OpenUpdate, left_of, of_slot, steps_on}
 use Rattle.recovery_theory.specs.History.{History, entry_now}
-use Rattle.recovery_theory.specs.Rules.{numbers}
 use Rattle.recovery_theory.specs.Standing.{with_updates}
 use Rattle.recovery_theory.specs.Steps.{IsPlaceToCut}
-use Rattle.record_machine.specs.Machine.{Deed, EntriesBefore, Idle, LooseChange, Machine, home, is_begin_in, is_busy, overlaid, writes_page}
-use Rattle.record_machine.specs.Meaning.{AreLogged, Means, Plain, first_record, writes_key}
+use Rattle.record_machine.specs.Machine.{Deed, EntriesBefore, Idle, LooseChange, Machine, Up, home, is_begin_in, is_busy, overlaid, writes_page}
+use Rattle.record_machine.specs.Meaning.{AreInOrder, AreLogged, Means, Plain, first_record, writes_key}
 use Rattle.record_machine.specs.Parts.{is_of_page}
-use Rattle.record_machine.specs.Recoverable.{Recoverable}
-use Rattle.record_machine.specs.Stops.{entries_before, ident_before, pending_before, tail_before}
+use Rattle.record_machine.specs.Recoverable.{Recoverable, TellsDeeds}
+use Rattle.record_machine.specs.Stops.{any_awaits, entries_before, ident_before, pending_before, tail_before}
 
 -- ---- what is taken back
 
@@ -47,19 +47,12 @@ touches x c = is_of_page x c || is_of_map x c.entries
 abbrev pub seat_of : (n seat : ℕ) → TxnId
 seat_of n seat = record { node = record { 0 = n }; seat = seat }
 
--- what these records say of the transaction in a seat that began with this record: it is open, and what is left of it are its
--- writes among these deeds, in their order
-pub record TellsDeeds (first : ℕ) (recs : List LogRecord) (ds : List Deed) (seat begin : ℕ) : Type 0 where
-  pub left : List OpenUpdate
-  pub going : left_of begin first recs None ≡ Some left
-  pub begins : filter (λ d. is_none d.write) (filter (λ d. d.seat == seat) ds) ≡ record { number = begin; seat = seat; write = None } ∷ []
-  pub writes : map (λ d. d.number) (filter (λ d. is_some d.write) (filter (λ d. d.seat == seat) ds)) ≡ reverse (numbers left)
-
 -- These records of node n's log tell these deeds of its open transactions. What they have written is written by transactions that
 -- are open, here and at present, and have the lock; it stands in the page that the group has at present; and they see of it what
 -- their updates that are left make of the committed record.
 pub record TellsLog (m : Machine) (begun : ℕ → ℕ → ℕ) (n first : ℕ) (recs : List LogRecord) (ds : List Deed) : Type 0 where
   pub deeds : AreLogged first recs (λ seat. m.records) ds
+  pub rising : AreInOrder ds
   pub homes : All (λ d. IfSome d.write (λ w. home m w.key ≡ Some w.page)) ds
   pub locked : (seat : ℕ) (key : Key) → list_any (writes_key seat key.0) ds ≡ true → mode_of m.locks key (seat_of n seat) ≡ Some locks.Write
   pub opened : (seat key : ℕ) → list_any (writes_key seat key) ds ≡ true → list_any (is_begin_in seat) ds ≡ true
@@ -83,12 +76,14 @@ pub record TakesBackTo (h : History) (m : Machine) (begun : ℕ → ℕ → ℕ)
   pub writes : (x : ℕ) → count_by (writes_page x) (deeds_at h m n cut) ≤ count_by (writes_page x) (m.pending n) + length (steps_on x (drop cut (h.live n)))
 
 -- Each node has a loose change for each of its records that isn't stable, and they take back what the log says. A place that a
--- group has at some cut, it has at present. A node that isn't in use has nothing loose.
+-- group has at some cut, it has at present. Only nodes of the store are in use; one that isn't has nothing loose, and no lock.
 pub record MayStop (h : History) (m : Machine) (begun : ℕ → ℕ → ℕ) : Type 0 where
   pub enough : (n : ℕ) → length (h.live n) ≤ h.stable n + length (m.loose n)
   pub back : (n cut : ℕ) → IsPlaceToCut h n cut → TakesBackTo h m begun n cut
   pub used : (x cut : ℕ) → IsPlaceToCut h (h.guard x) cut → is_used (h.entry x cut) ≡ true → h.entry x cut ≡ entry_now h x
   pub resting : (n : ℕ) → m.mode n ≡ Idle → m.loose n ≡ []
+  pub owners : (key : Key) (t : TxnId) (mode : Mode) → mode_of m.locks key t ≡ Some mode → m.mode t.node.0 ≢ Idle
+  pub nodes : (n : ℕ) → m.mode n ≢ Idle → (1 ≤ n) × (n ≤ m.shape.nodes)
 
 -- A store whose history and present mean the machine's state, and do so wherever a node stops.
 pub record Survives (dirty : ℕ → Bool) (h : History) (p : Plain) (m : Machine) : Type 0 where
@@ -96,8 +91,11 @@ pub record Survives (dirty : ℕ → Bool) (h : History) (p : Plain) (m : Machin
   pub means : Means p m
   pub stops : MayStop h m recoverable.begun
 
--- A store, also where its tables are lost: it is as if it still had these locks. While no table is lost they are its own.
+-- A store, also where its tables are lost: it is as if it still had these locks. While no table is lost they are its own. While they
+-- are lost, no lock is taken, some node awaits recovery, and no transaction of a node that is up is open or has one of these locks.
 pub record SurvivesAs (held : Held) (dirty : ℕ → Bool) (h : History) (p : Plain) (m : Machine) : Type 0 where
   pub survives : Survives dirty h p (record m { locks = held })
   pub own : m.reopening ≡ false → held ≡ m.locks
-  pub within : (key : Key) (t : TxnId) (mode : Mode) → mode_of m.locks key t ≡ Some mode → mode_of held key t ≡ Some mode
+  pub lost : m.reopening ≡ true → m.locks ≡ finite.empty
+  pub awaits : m.reopening ≡ true → any_awaits m ≡ true
+  pub quiet : m.reopening ≡ true → (t : TxnId) → m.mode t.node.0 ≡ Up → (is_busy m t ≡ false) × ((key : Key) → mode_of held key t ≡ None)

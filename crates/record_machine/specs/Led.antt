@@ -1,5 +1,5 @@
 -- How far a call has led the machine: it did all parts, or a node stopped in it.
-use Rattle.std.specs.Prelude.{◌≡◌, ◌⊎◌, ◌≤◌, ◌∷◌, ℕ, Bool, true, false, All, List, Option, Some, None, Result, Ok, Err, drop, length, take}
+use Rattle.std.specs.Prelude.{◌≡◌, ◌⊎◌, ◌≤◌, ◌∷◌, ℕ, Bool, true, false, All, List, Option, Some, None, Result, Ok, Err, drop, is_none, length, take, if◌then◌else◌}
 use Rattle.script_text.specs.declared.reply.Reply.{Reply}
 use Rattle.script_text.specs.declared.reply.Reply.TheVariants as says
 use Rattle.record_machine.specs.Machine.{Machine}
@@ -38,17 +38,19 @@ abbrev pub Led : {A : Type 0} → ℕ → Result A Reply → List Part → Machi
 Led n (Ok x) ps m S = S (dos ps m)
 Led n (Err why) ps m S = LedErr n why ps m S
 
--- a front of these parts is done
-abbrev pub HasFront : List Part → Machine → (Machine → Type 0) → Type 0
-HasFront ps m S = (count : ℕ) × S (dos (take count ps) m)
+-- what a call that is refused for a reason leaves, for a state of S
+abbrev pub Leaves : Type 1
+Leaves = Reply → (Machine → Type 0) → Type 0
 
--- the reply says that a node stopped, or is the call's refusal, before which some pages were taken
-abbrev pub LedOrErr : ℕ → Option Reply → Reply → List Part → List Part → Machine → (Machine → Type 0) → Type 0
-LedOrErr n why (says.Stopped h) ps takes m S = Broke n h.0 ps m S
-LedOrErr n why (says.Fault h) ps takes m S = Broke n h.0 ps m S
-LedOrErr n why reply ps takes m S = (why ≡ Some reply) × HasFront takes m S
+-- The reply is the call's refusal, or says that a node stopped: in one of its parts, or, where it is to be refused, as its pages were
+-- taken.
+abbrev pub LedOrErr : ℕ → Option Reply → Reply → (ps takes : List Part) → Leaves → Machine → (Machine → Type 0) → Type 0
+LedOrErr n why (says.Stopped h) ps takes leaves m S = Broke n h.0 (if is_none why then ps else takes) m S
+LedOrErr n why (says.Fault h) ps takes leaves m S = Broke n h.0 (if is_none why then ps else takes) m S
+LedOrErr n why reply ps takes leaves m S = (why ≡ Some reply) × leaves reply S
 
--- A call by node n that does these parts, where nothing refuses it, or takes some of these pages and is refused, or stops.
-abbrev pub LedOr : {A : Type 0} → ℕ → Option Reply → Result A Reply → (ps takes : List Part) → Machine → (Machine → Type 0) → Type 0
-LedOr n why (Ok x) ps takes m S = (why ≡ None) × S (dos ps m)
-LedOr n why (Err reply) ps takes m S = LedOrErr n why reply ps takes m S
+-- A call by node n that does these parts, where nothing refuses it, or is refused, or stops. It says what a refusal leaves, as
+-- `StaysAs` does for a command.
+abbrev pub LedOr : {A : Type 0} → ℕ → Option Reply → Result A Reply → (ps takes : List Part) → Leaves → Machine → (Machine → Type 0) → Type 0
+LedOr n why (Ok x) ps takes leaves m S = (why ≡ None) × S (dos ps m)
+LedOr n why (Err reply) ps takes leaves m S = LedOrErr n why reply ps takes leaves m S

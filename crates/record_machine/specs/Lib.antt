@@ -5,7 +5,6 @@ pub mod Led
 pub mod Commands
 pub mod Rows
 pub mod Steps
-pub mod Left
 pub mod Meaning
 pub mod Recoverable
 pub mod RecoverableParts

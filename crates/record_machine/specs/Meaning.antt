@@ -1,6 +1,6 @@
 -- What the logs and the pages of a store mean to the machine.
 use Rattle.std.specs.Prelude.{◌≡◌, ◌≢◌, ◌==◌, ◌&&◌, ◌+◌, ◌*◌, ◌^◌, ◌≤◌, ◌<◌, ◌++◌, ⊤, ℕ, Bool, true, false, List, [], ◌∷◌, Option, Some, None, All, IfSome, length, map, replicate, unwrap_or, slice_index_or, slice_set}
-use Rattle.std.specs.List.{list_any}
+use Rattle.std.specs.List.{AllPairs, list_any}
 use Rattle.sd_base.specs.Shape.{IsShape, page_count, pages_per_map}
 use Rattle.sd_base.specs.declared.names.GroupNo.{GroupNo}
 use Rattle.sd_base.specs.declared.names.Key.{Key}
@@ -59,6 +59,10 @@ abbrev pub AreLogged : ℕ → List LogRecord → (ℕ → ℕ → Option (List 
 AreLogged first recs value [] = ⊤
 AreLogged first recs value (d ∷ ds) = IsLogged first recs value d × AreLogged first recs (after d value) ds
 
+-- these deeds are in the order of their records
+abbrev pub AreInOrder : List Deed → Type 0
+AreInOrder ds = AllPairs (λ d e. d.number < e.number) ds
+
 -- the transaction in a seat has written the record of the key
 abbrev pub writes_key : ℕ → ℕ → Deed → Bool
 writes_key seat key d = d.seat == seat && is_of d.write
@@ -102,6 +106,8 @@ pub record ArePages (p : Plain) (m : Machine) : Type 0 where
 pub record AreLogs (p : Plain) (m : Machine) : Type 0 where
   pub tail : (n : ℕ) → m.tail n ≡ first_record m n + length (p.live n)
   pub deeds : (n : ℕ) → AreLogged (first_record m n) (p.live n) (λ seat. m.records) (m.pending n)
+  -- in the order in which they were logged
+  pub rising : (n : ℕ) → AreInOrder (m.pending n)
   -- what is written stands in the page of the key's group
   pub homes : (t : TxnId) → All (λ d. IfSome d.write (λ w. home m w.key ≡ Some w.page)) (m.pending t.node.0)
 

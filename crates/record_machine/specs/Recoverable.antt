@@ -1,12 +1,13 @@
 -- What the history of a store means to the record machine, beside what its present pages and logs mean.
-use Rattle.std.specs.Prelude.{◌≡◌, ◌⊎◌, ◌+◌, ◌<◌, ◌≤◌, ◌∷◌, ℕ, Bool, true, false, List, [], Some, None, is_none, is_some, filter, length, map, reverse}
+use Rattle.std.specs.Prelude.{◌≡◌, ◌≢◌, ◌⊎◌, ◌==◌, ◌+◌, ◌<◌, ◌≤◌, ◌∷◌, ℕ, Bool, true, false, List, [], Some, None, is_none, is_some, filter, length, map, reverse}
 use Rattle.sd_base.specs.declared.names.Key.{Key}
 use Rattle.sd_base.specs.declared.names.TxnId.{TxnId}
 use Rattle.sd_base.specs.Places.{slot_of_key}
 use Rattle.sd_base.specs.Shape.{page_count}
+use Rattle.log_record.specs.declared.record.LogRecord.{LogRecord}
 use Rattle.record_locks.specs.declared.mode.Mode.TheVariants as locks
 use Rattle.record_locks.specs.Held.{mode_of}
-use Rattle.record_machine.specs.Machine.{Idle, Machine, Up, deeds_of, home, is_busy}
+use Rattle.record_machine.specs.Machine.{Deed, Down, Idle, Machine, Up, home, is_busy}
 use Rattle.record_machine.specs.Meaning.{Plain, first_record}
 use Rattle.space_map.specs.PageImage.{data_page, map_page}
 use Rattle.recovery_theory.specs.Effect.{Transaction, OpenUpdate, left_of}
@@ -26,13 +27,17 @@ pub record IsStored (h : History) (x : ℕ) : Type 0 where
 abbrev pub IsKnown : Machine → TxnId → Type 0
 IsKnown m t = (is_busy m t ≡ true) ⊎ ((key : Key) × (mode_of m.locks key t ≡ Some locks.Write))
 
--- What the log says of the transaction in a busy seat, which began with this record: it is open, and what is left of it are the
--- writes that the machine has, in the order of the log.
-pub record TellsSeat (h : History) (m : Machine) (t : TxnId) (begin : ℕ) : Type 0 where
+-- what these records say of the transaction in a seat that began with this record: it is open, and what is left of it are its
+-- writes among these deeds, in their order
+pub record TellsDeeds (first : ℕ) (recs : List LogRecord) (ds : List Deed) (seat begin : ℕ) : Type 0 where
   pub left : List OpenUpdate
-  pub going : left_of begin (h.devices.first t.node.0) (h.live t.node.0) None ≡ Some left
-  pub begins : filter (λ d. is_none d.write) (deeds_of m t) ≡ record { number = begin; seat = t.seat; write = None } ∷ []
-  pub writes : map (λ d. d.number) (filter (λ d. is_some d.write) (deeds_of m t)) ≡ reverse (numbers left)
+  pub going : left_of begin first recs None ≡ Some left
+  pub begins : filter (λ d. is_none d.write) (filter (λ d. d.seat == seat) ds) ≡ record { number = begin; seat = seat; write = None } ∷ []
+  pub writes : map (λ d. d.number) (filter (λ d. is_some d.write) (filter (λ d. d.seat == seat) ds)) ≡ reverse (numbers left)
+
+-- so it is with the whole log and a busy seat, of which the machine has these deeds
+abbrev pub TellsSeat : History → Machine → TxnId → ℕ → Type 0
+TellsSeat h m t begin = TellsDeeds (h.devices.first t.node.0) (h.live t.node.0) (m.pending t.node.0) t.seat begin
 
 -- transaction `txn` of node n's log, which is open, is that of a busy seat
 pub record HasSeat (m : Machine) (begun : ℕ → ℕ → ℕ) (n txn : ℕ) : Type 0 where
@@ -40,6 +45,10 @@ pub record HasSeat (m : Machine) (begun : ℕ → ℕ → ℕ) (n txn : ℕ) : T
   pub node : who.node.0 ≡ n
   pub busy : is_busy m who ≡ true
   pub begins : begun who.node.0 who.seat ≡ txn
+
+-- The node that logs a page keeps it: it is in use and holds the page, or it is down and the tables are lost.
+abbrev pub IsKeptBy : Machine → ℕ → ℕ → Type 0
+IsKeptBy m x n = ((m.hold x ≡ Some n) × (m.mode n ≢ Idle)) ⊎ ((m.reopening ≡ true) × (m.mode n ≡ Down))
 
 -- The history of a store whose present logs and pages are p means the machine's state: its records are the committed ones, its
 -- present is p, a page is its holder's to log, one that isn't changed in memory (`dirty`) is on the disk, and what an open
@@ -55,6 +64,8 @@ pub record Recoverable (dirty : ℕ → Bool) (h : History) (p : Plain) (m : Mac
   pub pages : (x : ℕ) → m.shape.maps ≤ x → x < page_count m.shape → image_now h x ≡ data_page (p.pages x)
   pub guard : (x n : ℕ) → m.hold x ≡ Some n → h.guard x ≡ n
   pub stored : (x : ℕ) → dirty x ≡ false → IsStored h x
+  -- a page that is changed in memory is with the node that logs it
+  pub holder : (x : ℕ) → dirty x ≡ true → IsKeptBy m x (h.guard x)
   -- the Begin of the transaction in each seat
   pub begun : ℕ → ℕ → ℕ
   pub seats : (t : TxnId) → is_busy m t ≡ true → TellsSeat h m t (begun t.node.0 t.seat)

@@ -104,9 +104,10 @@ ChangedRecoverable = (dirty : ℕ → Bool) (h : History) (p : Plain) (m : Machi
     → Recoverable (put w.page true dirty) (step.changed_page h t.node.0 rec w.page op) (logged t.node.0 rec (with_page w.page v p)) (one (Change t w) m)
 
 -- A group without a page gets the one of the first free place of its map page; the node has both. Whoever may write a record of
--- the group gets its slot. Until the log is forced the new page counts as changed_page: its entry may still be taken away.
+-- the group gets its slot. Until the log is forced the new page counts as changed in memory: its entry may still be taken away.
 abbrev pub UsedRecoverable : Type 0
 UsedRecoverable = (dirty : ℕ → Bool) (h : History) (p : Plain) (m : Machine) (n key place : ℕ) (rec : LogRecord) (map : MapImage) → Recoverable dirty h p m → Means p m
+    → m.mode n ≢ Idle
     → home m key ≡ None
     → free_place m key ≡ Some place
     → m.hold (map_of_key m.shape key) ≡ Some n

@@ -1,14 +1,18 @@
 -- What recovers a node: its log is redone, and then its open transactions are taken back.
-use Rattle.std.specs.Prelude.{◌≡◌, ◌==◌, ◌-◌, ◌<◌, ◌≤◌, ◌&&◌, ◌⊎◌, ◌++◌, ◌∷◌, [], ℕ, zero, suc, Bool, true, false, not, List, Option, Some, None, count_by, filter, fold, is_none, length, min, nat_lt, option_and_then, option_map, is_some, take, if◌then◌else◌}
+use Rattle.std.specs.Prelude.{◌≡◌, ◌≢◌, ◌==◌, ◌-◌, ◌<◌, ◌≤◌, ◌&&◌, ◌⊎◌, ◌++◌, ◌∷◌, [], ℕ, zero, suc, Bool, true, false, not, List, Option, Some, None, IsSome, count_by, filter, fold, is_none, length, min, nat_lt, option_and_then, option_map, is_some, take, if◌then◌else◌}
 use Rattle.std.specs.List.{find, list_any, range_with_len}
 use Rattle.std.specs.FinMap as finite
 use Rattle.sd_base.specs.declared.names.TxnId.{TxnId}
+use Rattle.sd_base.specs.declared.shape.Shape.{Shape}
 use Rattle.sd_base.specs.Places.{map_of_data}
 use Rattle.sd_base.specs.Shape.{page_count}
 use Rattle.space_map.specs.PageImage.{PageImage}
+use Rattle.log_record.specs.declared.record.LogRecord.{LogRecord}
 use Rattle.record_locks.specs.Held.{Held, without_node}
+use Rattle.recovery_theory.specs.Effect.{steps_on}
 use Rattle.recovery_theory.specs.History.{History}
 use Rattle.recovery_theory.specs.Redo.{count_applied, count_skipped}
+use Rattle.record_machine.specs.Commands.{first_of, where_so}
 use Rattle.record_machine.specs.Cuts.{SurvivesAs, seat_of}
 use Rattle.record_machine.specs.Machine.{Deed, Down, Idle, Machine, NodeMode, Redone, Up, Write, is_down, is_idle, is_write_in, put, used}
 use Rattle.record_machine.specs.Meaning.{Plain}
@@ -32,29 +36,19 @@ pub data RecoveryReply : Type 0 where
   TellsUndo : (done left : ℕ) → RecoveryReply
   Fine : RecoveryReply
 
--- the first of these refusals that there is
-abbrev pub first_refusal : List (Option RecoveryReply) → Option RecoveryReply
-first_refusal [] = None
-first_refusal (None ∷ more) = first_refusal more
-first_refusal (Some why ∷ more) = Some why
-
-abbrev pub refused_if : Bool → RecoveryReply → Option RecoveryReply
-refused_if true why = Some why
-refused_if false why = None
-
 -- the store has no such node; the worker isn't in use; the least node that is down
 abbrev pub is_none_such : Machine → ℕ → Option RecoveryReply
-is_none_such m n = refused_if (nat_lt m.shape.nodes n) (NoNode n)
+is_none_such m n = where_so (nat_lt m.shape.nodes n) (NoNode n)
 
 abbrev pub is_no_worker : Machine → ℕ → Option RecoveryReply
-is_no_worker m w = refused_if (is_idle (m.mode w)) (NoWorker w)
+is_no_worker m w = where_so (is_idle (m.mode w)) (NoWorker w)
 
 abbrev pub least_down : Machine → Option ℕ
 least_down m = find (λ n. is_down (m.mode n)) (range_with_len 1 m.shape.nodes)
 
 -- Why a step is refused, if it is: the first of these reasons. The worker may be a node that is itself down or redone.
 abbrev pub redo_refusal : Machine → (n w : ℕ) → Option RecoveryReply
-redo_refusal m n w = first_refusal (is_none_such m n ∷ is_none_such m w ∷ refused_if (not (is_down (m.mode n))) (NotDown n) ∷ is_no_worker m w ∷ [])
+redo_refusal m n w = first_of (is_none_such m n ∷ is_none_such m w ∷ where_so (not (is_down (m.mode n))) (NotDown n) ∷ is_no_worker m w ∷ [])
 
 abbrev pub is_redone : NodeMode → Bool
 is_redone Idle = false
@@ -63,10 +57,10 @@ is_redone Down = false
 is_redone Redone = true
 
 abbrev pub undo_refusal : Machine → (u w : ℕ) → Option RecoveryReply
-undo_refusal m u w = first_refusal (is_none_such m u ∷ is_none_such m w ∷ refused_if (not (is_redone (m.mode u))) (NotRedone u) ∷ is_no_worker m w ∷ option_map RedoFirst (least_down m) ∷ [])
+undo_refusal m u w = first_of (is_none_such m u ∷ is_none_such m w ∷ where_so (not (is_redone (m.mode u))) (NotRedone u) ∷ is_no_worker m w ∷ option_map RedoFirst (least_down m) ∷ [])
 
 abbrev pub recover_refusal : Machine → ℕ → Option RecoveryReply
-recover_refusal m w = first_refusal (is_none_such m w ∷ is_no_worker m w ∷ [])
+recover_refusal m w = first_of (is_none_such m w ∷ is_no_worker m w ∷ [])
 
 -- ---- a log is redone
 
@@ -78,11 +72,21 @@ released n hold x = by (hold x)
     by None = None
     by (Some h) = if h == n then None else Some h
 
-abbrev pub redone : ℕ → Machine → Machine
-redone n m = record m { mode = put n Redone m.mode; hold = released n m.hold }
+-- node u holds nothing
+abbrev pub holding_none : ℕ → Machine → Machine
+holding_none u m = record m { hold = released u m.hold }
 
--- the counts are those of redo over the node's log, from what the disk holds
+-- so it is once its log is redone
+abbrev pub redone : ℕ → Machine → Machine
+redone n m = holding_none n (record m { mode = put n Redone m.mode })
+
+-- a record of this log changes the page, or a page whose map page it is
+abbrev pub IsOfLog : Shape → List LogRecord → ℕ → Type 0
+IsOfLog s recs x = (y : ℕ) × (steps_on y recs ≢ []) × ((x ≡ y) ⊎ ((s.maps ≤ y) × (x ≡ (map_of_data s (record { 0 = y })).0)))
+
+-- The counts are those of redo over the node's log, from what the disk holds. It has read all pages of the log, and none is lost.
 pub record CountsRedo (h : History) (m : Machine) (n applied skipped : ℕ) : Type 0 where
+  pub whole : (x : ℕ) → IsOfLog m.shape (h.live n) x → IsSome (h.devices.disk x)
   pub images : ℕ → PageImage
   pub on_disk : (x : ℕ) (i : PageImage) → h.devices.disk x ≡ Some i → images x ≡ i
   pub applied_is : applied ≡ count_applied h.devices.shape (h.live n) images
@@ -92,10 +96,10 @@ pub record CountsRedo (h : History) (m : Machine) (n applied skipped : ℕ) : Ty
 abbrev pub WorkerStops : Machine → (w h : ℕ) → (Machine → Type 0) → Type 0
 WorkerStops m w h S = (h ≡ w) × (kept : ℕ) × (kept ≤ length (m.loose h)) × S (stop h kept m)
 
--- a redo that isn't refused: done, or broken off
+-- a redo that isn't refused: done, or broken off, where a page of the log is lost or the worker stopped
 abbrev pub Redoes : History → Machine → (n w : ℕ) → RecoveryReply → (Machine → Type 0) → Type 0
 Redoes h m n w (TellsRedo scanned applied skipped) S = (scanned ≡ used m n) × CountsRedo h m n applied skipped × S (redone n m)
-Redoes h m n w (Lost x) S = (m.gone x ≡ true) × S m
+Redoes h m n w (Lost x) S = (m.gone x ≡ true) × IsOfLog m.shape (h.live n) x × S m
 Redoes h m n w (Stopped k) S = WorkerStops m w k S
 Redoes h m n w (Fault k) S = WorkerStops m w k S
 Redoes h m n w reply S = ⊥
@@ -191,10 +195,6 @@ next_page u front m = by (option_and_then (λ d. d.write) (newest_write (m.pendi
     by (Some w) (suc zero) = Some w.page
     by (Some w) (suc (suc more)) = None
 
--- node u holds nothing
-abbrev pub holding_none : ℕ → Machine → Machine
-holding_none u m = record m { hold = released u m.hold }
-
 -- Node h stopped before all writes were taken back: the worker, or the node from which the next page was to be taken. Where it was
 -- the worker, node u has to be redone again, and holds what it has taken. Else it goes on to hold nothing.
 pub record StopsTakingBack (u w count h : ℕ) (m : Machine) (S : Machine → Type 0) : Type 0 where
@@ -214,12 +214,15 @@ pub record StopsEnding (u w count h : ℕ) (m : Machine) (S : Machine → Type 0
   pub within : kept ≤ length ((ends_at u count front m).loose h)
   pub after : S (stop_in_undo u h kept (ends_at u count front m))
 
--- A page of a write is lost: the writes behind it are taken back, some pages may have been taken, and node u holds none.
+-- A page of the write that is taken back next is lost: that page, or its map page. So many writes are taken back, all of them newer, and
+-- no transaction is ended. Node u may have taken the pages up to the lost one, and holds none in the end.
 pub record LosesPage (u count x : ℕ) (m : Machine) (S : Machine → Type 0) : Type 0 where
   pub done : ℕ
   pub below : done < min count (writes_left u m)
+  pub which : ℕ
+  pub named : next_page u which (taken_back_from u done m) ≡ Some x
   pub front : ℕ
-  pub taking : front ≤ 2
+  pub taking : front ≤ suc which
   pub gone : m.gone x ≡ true
   pub after : S (holding_none u (undo_at u done front m))
 
@@ -257,25 +260,21 @@ redone_all ns m = fold (λ k n. redone n k) m ns
 abbrev pub undone_all : ℕ → List ℕ → Machine → Machine
 undone_all w ns m = fold (λ k n. undone n w (writes_left n k) k) m ns
 
--- broken off as it redid a log, or took transactions back
-abbrev pub BreaksRedo : Machine → ℕ → RecoveryReply → (Machine → Type 0) → Type 0
-BreaksRedo m w (Lost x) S = (m.gone x ≡ true) × S m
-BreaksRedo m w (Stopped k) S = WorkerStops m w k S
-BreaksRedo m w (Fault k) S = WorkerStops m w k S
-BreaksRedo m w reply S = ⊥
+-- broken off as it redid the log of a node, or took transactions back
+abbrev pub BreaksRedo : History → Machine → (n w : ℕ) → RecoveryReply → (Machine → Type 0) → Type 0
+BreaksRedo h m n w (TellsRedo scanned applied skipped) S = ⊥
+BreaksRedo h m n w reply S = Redoes h m n w reply S
 
-pub record BreaksInRedo (m : Machine) (w : ℕ) (reply : RecoveryReply) (S : Machine → Type 0) : Type 0 where
+pub record BreaksInRedo (h : History) (m : Machine) (w : ℕ) (reply : RecoveryReply) (S : Machine → Type 0) : Type 0 where
   pub before : List ℕ
   pub node : ℕ
   pub behind : List ℕ
   pub order : redo_order w m ≡ before ++ node ∷ behind
-  pub breaks : BreaksRedo (redone_all before m) w reply S
+  pub breaks : BreaksRedo h (redone_all before m) node w reply S
 
 abbrev pub BreaksUndo : Machine → (u w : ℕ) → RecoveryReply → (Machine → Type 0) → Type 0
-BreaksUndo m u w (Lost x) S = LosesPage u (writes_left u m) x m S
-BreaksUndo m u w (Stopped h) S = StopsUndo u w (writes_left u m) h m S
-BreaksUndo m u w (Fault h) S = StopsUndo u w (writes_left u m) h m S
-BreaksUndo m u w reply S = ⊥
+BreaksUndo m u w (TellsUndo done left) S = ⊥
+BreaksUndo m u w reply S = Undoes m u w (writes_left u m) reply S
 
 pub record BreaksInUndo (m : Machine) (w : ℕ) (reply : RecoveryReply) (S : Machine → Type 0) : Type 0 where
   pub before : List ℕ
@@ -287,16 +286,17 @@ pub record BreaksInUndo (m : Machine) (w : ℕ) (reply : RecoveryReply) (S : Mac
 abbrev pub all_redone : ℕ → Machine → Machine
 all_redone w m = redone_all (redo_order w m) m
 
-abbrev pub Recovers : Machine → ℕ → RecoveryReply → (Machine → Type 0) → Type 0
-Recovers m w Fine S = S (recovered (undone_all w (undo_order (all_redone w m)) (all_redone w m)))
-Recovers m w reply S = BreaksInRedo m w reply S ⊎ BreaksInUndo (all_redone w m) w reply S
+abbrev pub Recovers : History → Machine → ℕ → RecoveryReply → (Machine → Type 0) → Type 0
+Recovers h m w Fine S = S (recovered (undone_all w (undo_order (all_redone w m)) (all_redone w m)))
+Recovers h m w reply S = BreaksInRedo h m w reply S ⊎ BreaksInUndo (all_redone w m) w reply S
 
--- From m worker w may be answered so where it recovers all nodes, and the machine go on to a state of S.
-abbrev pub RecoverStep : Machine → ℕ → RecoveryReply → (Machine → Type 0) → Type 0
-RecoverStep m w reply S = by (recover_refusal m w)
+-- From m, whose history this is, worker w may be answered so where it recovers all nodes, and the machine go on to a state of S. The
+-- logs of the nodes that are down stay as they are while the others are redone.
+abbrev pub RecoverStep : History → Machine → ℕ → RecoveryReply → (Machine → Type 0) → Type 0
+RecoverStep h m w reply S = by (recover_refusal m w)
   where
     by : Option RecoveryReply → Type 0
-    by None = Recovers m w reply S
+    by None = Recovers h m w reply S
     by (Some why) = (reply ≡ why) × S m
 
 -- ---- a store is opened

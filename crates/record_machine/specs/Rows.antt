@@ -7,7 +7,6 @@ use Rattle.script_text.specs.declared.command.Command.{Command}
 use Rattle.script_text.specs.declared.command.Command.TheVariants as asks
 use Rattle.script_text.specs.declared.reply.Reply.{Reply}
 use Rattle.script_text.specs.declared.reply.Reply.TheVariants as says
-use Rattle.record_machine.specs.Commands.{refusal}
 use Rattle.record_machine.specs.Machine.{Machine, home}
 
 -- the node that is asked for a dump, where the command is one
@@ -57,20 +56,6 @@ IsNextRow m first reply = ⊥
 abbrev pub IsInUse : Machine → ℕ → Type 0
 IsInUse m x = (x < m.shape.maps) ⊎ ((key : ℕ) × (home m key ≡ Some x))
 
--- the node has taken such pages, and the machine goes on to a state of S
-pub record Takes (m : Machine) (n : NodeId) (S : Machine → Type 0) : Type 0 where
-  pub hold : ℕ → Option ℕ
-  pub taken : (x : ℕ) → (hold x ≡ m.hold x) ⊎ ((hold x ≡ Some n.0) × IsInUse m x)
-  pub after : S (record m { hold = hold })
-
--- From m the machine may answer so where the next record is asked for, and go on to a state of S.
-abbrev pub RowStep : Machine → NodeId → ℕ → Reply → (Machine → Type 0) → Type 0
-RowStep m n first r S = by (refusal m (asks.Dump n))
-  where
-    by : Option Reply → Type 0
-    by None = IsNextRow m first r × Takes m n S
-    by (Some why) = (r ≡ why) × S m
-
 -- ---- all rows
 
 -- a record, with its key
@@ -92,11 +77,3 @@ pub record AreAllRows (m : Machine) (replies : List Reply) : Type 0 where
   pub rows : List Row
   pub are : AreRows m (2 ^ 32) rows
   pub said : replies ≡ map row_reply rows ++ says.EndDump (length rows) ∷ []
-
--- From m a dump may be answered with these replies, and the machine go on to a state of S.
-abbrev pub DumpStep : Machine → NodeId → List Reply → (Machine → Type 0) → Type 0
-DumpStep m n replies S = by (refusal m (asks.Dump n))
-  where
-    by : Option Reply → Type 0
-    by None = AreAllRows m replies × Takes m n S
-    by (Some why) = (replies ≡ why ∷ []) × S m

@@ -7,7 +7,7 @@ use Rattle.script_text.specs.declared.command.Command.{Command}
 use Rattle.script_text.specs.declared.command.Command.TheVariants as asks
 use Rattle.script_text.specs.declared.reply.Reply.{Reply}
 use Rattle.script_text.specs.declared.reply.Reply.TheVariants as says
-use Rattle.record_machine.specs.Commands.{MayAnswer, any_lock, busy, first_of, no_deletion, no_lock, no_node, no_page, no_room, no_txn, not_idle, not_up, parts, takes, too_long, where_so}
+use Rattle.record_machine.specs.Commands.{MayAnswer, any_lock, busy, first_of, needs_pages, no_deletion, no_lock, no_node, no_page, no_room, no_txn, not_idle, not_up, parts, takes, too_long, where_so}
 use Rattle.record_machine.specs.Led.{Broke}
 use Rattle.record_machine.specs.Machine.{Machine, awaits_recovery, is_down, seen}
 use Rattle.record_machine.specs.Parts.{Part, Sure, Take, dos}
@@ -57,11 +57,7 @@ pub data Met : Type 0 where
 
 abbrev pub met : Reply → Met
 met (says.Held x h) = Taking
-met (says.Limit x) = Behind
-met (says.NoSpace x) = Behind
-met (says.TooLong len) = Behind
-met (says.LogFull need room) = Behind
-met why = Before
+met why = if needs_pages why then Behind else Before
 
 -- ---- what is done
 

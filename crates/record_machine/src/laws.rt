@@ -19,13 +19,14 @@ ghost use Rattle.record_locks.specs.declared.mode.Mode.TheVariants as locks;
 ghost use Rattle.record_locks.specs.Answer.{lock_answer, may_take};
 ghost use Rattle.record_locks.specs.Held.{least_where, mode_of};
 ghost use Rattle.script_text.specs.declared.command.Command.{Command};
-ghost use Rattle.record_machine.specs.Commands.{takes};
+ghost use Rattle.script_text.specs.declared.command.Command.TheVariants as asks;
+ghost use Rattle.record_machine.specs.Commands.{parts, takes};
 ghost use Rattle.record_machine.specs.Machine.{Deed, Down, LooseChange, Machine, Up, Write, deeds_of, formatted, free_place, home, newest_of, owed, seen, writes_of};
 ghost use Rattle.record_machine.specs.Parts as part;
 ghost use Rattle.record_machine.specs.Parts.{dos, is_of_page, one};
 ghost use Rattle.record_machine.specs.Rows.{AreRows, HasNone, IsNext, Row};
 ghost use Rattle.record_machine.specs.Steps.{held, refused_for};
-ghost use Rattle.record_machine.specs.Stops.{any_up, stop};
+ghost use Rattle.record_machine.specs.Stops.{any_up, stop, stop_in_undo};
 ghost use Rattle.record_machine.specs.Meaning.{IsChangedAt, IsUsed, Means, Plain, Tells, born, first_record, has_written, logged, with_map, with_page};
 
 /// A store means the machine's first state when it is formatted.
@@ -91,6 +92,8 @@ pub fn law_of_aborts()
     ensures others { (m : Machine) (t u : TxnId) → u ≢ t → deeds_of (one (part.Back t) m) u ≡ deeds_of m u }
     ensures no_more { (m : Machine) (t : TxnId) (key : ℕ) → newest_of m t ≡ None → has_written m t key ≡ false }
     ensures all_back { (m : Machine) (t : TxnId) (key : ℕ) → has_written (dos (replicate (length (writes_of m t)) (part.Back t)) m) t key ≡ false }
+    // So a whole abort, which takes its pages first and releases its locks at last, changes no record.
+    ensures whole { (m : Machine) (t : TxnId) (key : ℕ) → (dos (parts m (asks.Abort t)) m).records key ≡ m.records key }
     ensures undone { (m : Machine) (t : TxnId) (key : ℕ) → (one (part.Seal t) (dos (replicate (length (writes_of m t)) (part.Back t)) m)).records key ≡ m.records key }
 {}
 
@@ -101,6 +104,8 @@ pub fn law_of_stops()
     ensures records { (m : Machine) (h kept : ℕ) → (stop h kept m).records ≡ m.records }
     ensures store { (m : Machine) (h kept : ℕ) → ((stop h kept m).shape ≡ m.shape) × ((stop h kept m).start ≡ m.start) × ((stop h kept m).first ≡ m.first) × ((stop h kept m).gone ≡ m.gone) }
     ensures down { (m : Machine) (h kept : ℕ) → ((stop h kept m).mode h ≡ Down) × ((stop h kept m).loose h ≡ []) }
+    // So is the node whose transactions it took back, where it stops as it does so.
+    ensures in_undo { (m : Machine) (u h kept : ℕ) → ((stop_in_undo u h kept m).mode u ≡ Down) × ((stop_in_undo u h kept m).mode h ≡ Down) }
     ensures others { (m : Machine) (h kept n : ℕ) → n ≢ h → ((stop h kept m).mode n ≡ m.mode n) × ((stop h kept m).pending n ≡ m.pending n) × ((stop h kept m).tail n ≡ m.tail n) × ((stop h kept m).loose n ≡ m.loose n) }
     // Its log ends before the first change that is taken back, and so it is with its open transactions.
     ensures back { (m : Machine) (h kept : ℕ) (c : LooseChange) (cs : List LooseChange) → drop kept (m.loose h) ≡ c ∷ cs → ((stop h kept m).tail h ≡ c.number) × ((stop h kept m).pending h ≡ c.pending) }

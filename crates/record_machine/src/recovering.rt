@@ -5,7 +5,7 @@ ghost use Rattle.sd_base.specs.declared.names.Key.{Key};
 ghost use Rattle.sd_base.specs.declared.names.TxnId.{TxnId};
 ghost use Rattle.record_locks.specs.Held.{mode_of};
 ghost use Rattle.record_machine.specs.Machine.{Machine};
-ghost use Rattle.record_machine.specs.RecoveryParts.{FreedSurvives, RedoBreaksOff, RedoneSurvives};
+ghost use Rattle.record_machine.specs.RecoveryParts.{FreedSurvives, GivenUpSurvives, RecoveredSurvives, RedoBreaksOff, RedoneSurvives};
 ghost use Rattle.record_machine.specs.RecoverySteps.{redone, undone};
 
 /// What a step of recovery leaves as it was: the committed records, what the transactions of the other nodes
@@ -22,5 +22,9 @@ pub fn law_of_recovery_steps()
 pub fn law_of_recovered_nodes()
     ensures broken_off { RedoBreaksOff }
     ensures redone { RedoneSurvives }
+    // A node gives up what it holds.
+    ensures given_up { GivenUpSurvives }
     ensures freed { FreedSurvives }
+    // With the last of them the tables aren't lost any more.
+    ensures recovered { RecoveredSurvives }
 {}

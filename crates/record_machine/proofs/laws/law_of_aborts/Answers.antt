@@ -7,6 +7,7 @@ use Rattle.record_machine.specs.Meaning.{Tells, first_record}
 use Rattle.record_machine.proofs.BackSteps.{all_undone, all_written, at_back, back_home, back_is, back_others, back_owed, back_told, back_writes, none_written}
 use Rattle.record_machine.proofs.Newest.{newest_is, some_write}
 use Rattle.record_machine.proofs.Steps.{room_back}
+use Rattle.record_machine.proofs.TakeSteps.{aborted_records}
 use Rattle.record_machine.proofs.laws.law_of_aborts.Goals as goal
 
 pub returns-clause-written : goal.returns-clause-written
@@ -39,3 +40,6 @@ returns-clause-all_back c = λ m t key. all_written (length (writes_of m t)) m t
 
 pub returns-clause-undone : goal.returns-clause-undone
 returns-clause-undone c = λ m t key. all_undone m t key
+
+pub returns-clause-whole : goal.returns-clause-whole
+returns-clause-whole c = λ m t key. aborted_records m t key

@@ -1,6 +1,9 @@
 use Rattle.std.specs.Prelude.{drop}
-use Rattle.record_machine.proofs.StopSteps.{idents_left, stop_none_new, stop_other_locks, stop_others, stop_reads, stop_writes}
+use Rattle.record_machine.proofs.StopSteps.{idents_left, stop_both, stop_none_new, stop_other_locks, stop_others, stop_reads, stop_writes}
 use Rattle.record_machine.proofs.laws.law_of_stops.Goals as goal
+
+pub returns-clause-in_undo : goal.returns-clause-in_undo
+returns-clause-in_undo c = λ m u h kept. stop_both m u h kept
 
 pub returns-clause-others : goal.returns-clause-others
 returns-clause-others c = λ m h kept n other. stop_others m h kept n other
