@@ -50,7 +50,7 @@ length-shape s h = omega (
 
 length-arguments : (c : Command) → IsCommand c → length (spaced (arguments c)) ≤ 1008
 length-arguments Bad h = absurd h
-length-arguments (Format s) h = length-shape s h.0
+length-arguments (Format s) h = length-shape s h
 length-arguments (Start n) h = omega (arith, length-node_word n h)
 length-arguments (Begin t) h = omega (arith, length-txn_word t h)
 length-arguments (Get t k) h = omega (arith, length-record t k h.0 h.1)

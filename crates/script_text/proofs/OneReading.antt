@@ -92,7 +92,7 @@ shape_one s r hs hr e =
 -- two commands with one name and the same words behind it are one
 one_form : (c d : Command) → IsCommand c → IsCommand d → form_name c ≡ form_name d → spaced (arguments c) ≡ spaced (arguments d) → c ≡ d
 one_form Bad d hc hd name rest = absurd hc
-one_form (Format s) (Format r) hc hd name rest = ap Format (shape_one s r hc.0 hd.0 rest)
+one_form (Format s) (Format r) hc hd name rest = ap Format (shape_one s r hc hd rest)
 one_form (Format s) d hc hd name rest = absurd (apart (codes "format") (form_name d) name refl)
 one_form (Start n) (Start m) hc hd name rest = ap Start (node_one n m hc hd rest)
 one_form (Start n) d hc hd name rest = absurd (apart (codes "start") (form_name d) name refl)

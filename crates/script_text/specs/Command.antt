@@ -38,10 +38,10 @@ arguments (Flush n) = node_word n ∷ []
 arguments (Dump n) = node_word n ∷ []
 arguments (Stat n) = node_word n ∷ []
 
--- the numbers and the value of a command are in their ranges. A store is made for one node today; `Bad` is no command
+-- the numbers and the value of a command are in their ranges; `Bad` is no command
 abbrev pub IsCommand : Command → Type 0
 IsCommand Bad = ⊥
-IsCommand (Format s) = IsShape s × (s.nodes ≡ 1)
+IsCommand (Format s) = IsShape s
 IsCommand (Start n) = IsNode n
 IsCommand (Begin t) = IsTxn t
 IsCommand (Get t k) = IsTxn t × IsKey k

@@ -108,17 +108,17 @@ fn read_change(rest: &[u8]) -> Option<(TxnId, Key, Value)>
     Some((read_txn(txn)?, read_key(key)?, read_value(value)?))
 }
 
-/// The numbers of a store. It has one node today.
+/// The numbers of a store.
 fn read_shape(rest: &[u8]) -> Option<Shape>
-    ensures found { IfSome result (λ s. IsShape s × (s.nodes ≡ 1) × (rest.now ≡ spaced (shape_words s))) }
-    ensures only { (s : Shape) → IsShape s → s.nodes ≡ 1 → rest.now ≡ spaced (shape_words s) → result ≡ Some s }
+    ensures found { IfSome result (λ s. IsShape s × (rest.now ≡ spaced (shape_words s))) }
+    ensures only { (s : Shape) → IsShape s → rest.now ≡ spaced (shape_words s) → result ≡ Some s }
 {
     let (nodes, rest) = cut(rest, b' ')?;
     let (ring, rest) = cut(rest, b' ')?;
     let (maps, rest) = cut(rest, b' ')?;
     let (keep, birth) = cut(rest, b' ')?;
     Some(Shape {
-        nodes: read_number(nodes, 1, 1)? as u8,
+        nodes: read_number(nodes, 1, 8)? as u8,
         ring: read_number(ring, 4, 4096)? as u32,
         maps: read_number(maps, 1, 256)? as u32,
         keep: read_number(keep, 1, 65536)? as u32,

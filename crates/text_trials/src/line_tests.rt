@@ -34,7 +34,7 @@ const SMALL: Shape = Shape {
 };
 
 const LARGEST: Shape = Shape {
-    nodes: 1,
+    nodes: 8,
     ring: 4096,
     maps: 256,
     keep: 65536,
@@ -45,7 +45,7 @@ const LARGEST: Shape = Shape {
 const COMMANDS: [(&str, Command); 21] = [
     ("format 1 4 1 1 0", Format(SMALLEST)),
     (
-        "format 1 4096 256 65536 9223372036854775808",
+        "format 8 4096 256 65536 9223372036854775808",
         Format(LARGEST),
     ),
     ("format 1 8 1 8 7", Format(SMALL)),
@@ -76,7 +76,7 @@ const BAD: &[&str] = &[
     "hello",
     // One past each range.
     "format 0 4 1 1 0",
-    "format 2 8 1 8 0",
+    "format 9 8 1 8 0",
     "format 1 3 1 1 0",
     "format 1 4097 1 1 0",
     "format 1 4 0 1 0",
