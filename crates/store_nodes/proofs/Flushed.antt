@@ -33,13 +33,14 @@ use Rattle.store_nodes.specs.Nodes.{AreApart, AreShared, CanHalt, IsAtWork, IsNo
 use Rattle.store_nodes.specs.Pages.{KeepsSeats, KeepsWork}
 use Rattle.store_nodes.specs.Ports.{IsQuiet, IsQuietButOf, IsQuietOf, NarrowsBesides}
 use Rattle.store_nodes.specs.Shows.{IsOnDisk, IsSettled, ShowsNode, ShowsStoreOf, ShowsUp, deeds_in, entry_in, image_in, numbers_of}
+use Rattle.txn_core.proofs.SeatLaws.{tied_same}
 use Rattle.store_nodes.proofs.Eight.{apart_with, at_other, at_same, cached_with, each_with, others_stay}
 use Rattle.store_nodes.proofs.Living.{living}
 use Rattle.store_nodes.proofs.Logs as logs
 use Rattle.store_nodes.proofs.OtherLogs.{pages_leave}
 use Rattle.store_nodes.proofs.ShownWith.{settled_before, shown_with}
 use Rattle.store_nodes.proofs.Stored.{still_stored, written_stored}
-use Rattle.store_nodes.proofs.Works.{page_still, place_inside, quiet_but, quiet_still, tied_same, up_most}
+use Rattle.store_nodes.proofs.Works.{page_still, place_inside, quiet_but, quiet_still, up_most}
 
 -- ---- the pages that are changed
 

@@ -21,7 +21,7 @@ use Rattle.store_nodes.specs.declared.store.Store.{Store}
 use Rattle.store_nodes.specs.Flushes.{HoldsChanged, IsApart, KeepsAllButChanged, KeepsOthers, NarrowsNoOthers, NarrowsToChanged, has_changed}
 use Rattle.store_nodes.specs.Footprint.{KeepsAllButLog, NarrowsToRing}
 use Rattle.store_nodes.specs.Nodes.{IsNode, IsPlace, IsStore, OnUp, is_up, node_at, pages_of}
-use Rattle.store_nodes.specs.Pages.{KeepsPages, KeepsSeats, KeepsWork, WritesBack}
+use Rattle.store_nodes.specs.Pages.{KeepsPages, WritesBack}
 use Rattle.store_nodes.proofs.Changed.{found_by}
 use Rattle.store_nodes.proofs.Works.{region_at, work_at}
 
@@ -77,23 +77,6 @@ module _ (n : ℕ) (a m : Store) where
         by (Up c seats) (Up d after) Idle up later same written = tt
         by (Up c seats) (Up d after) Down up later same written = tt
         by (Up c seats) (Up d after) (Up f last) up later same written = record { number = written.number ∙ ap (count_by has_changes) same; clean = written.clean; stable = written.stable }
-
-    -- no lock and no transaction has changed
-    pub before_work : KeepsWork n a m → KeepsWork n m e → KeepsWork n a e
-    before_work first next = record {
-      locks = next.locks ∙ first.locks;
-      reopening = next.reopening ∙ first.reopening;
-      seats = by (node_at a.nodes n) (node_at m.nodes n) (node_at e.nodes n) first.seats next.seats;
-    }
-      where
-        by : (old mid new : Node) → KeepsSeats old mid → KeepsSeats mid new → KeepsSeats old new
-        by Idle mid new was is = let now : KeepsSeats Idle new = subst (λ o. KeepsSeats o new) was is in now
-        by Down mid new was is = let now : KeepsSeats Down new = subst (λ o. KeepsSeats o new) was is in now
-        by (Up c seats) Idle new was is = let never : false ≡ true = was.0 in cc
-        by (Up c seats) Down new was is = let never : false ≡ true = was.0 in cc
-        by (Up c seats) (Up d mids) Idle was is = let never : false ≡ true = is.0 in cc
-        by (Up c seats) (Up d mids) Down was is = let never : false ≡ true = is.0 in cc
-        by (Up c seats) (Up d mids) (Up f after) was is = (refl, is.1 ∙ was.1)
 
 -- ---- the pages of the other nodes
 

@@ -33,6 +33,7 @@ pub mod FlushedPages
 pub mod LogReads
 pub mod FoundWrites
 pub mod Walks
+pub mod ShownReopening
 pub mod ShownRoom
 pub mod ShownHeld
 pub mod Shares

@@ -1,7 +1,7 @@
 -- What a call of one node leaves of the logs of the others.
 use Rattle.std.specs.Prelude.{◌≡◌, ◌≢◌, ◌+◌, ◌-◌, ◌/◌, ◌≤◌, ℕ, true, List, Option, Some, None}
 use Rattle.std.proofs.Common.{arith, inl, inr, ap, subst, sym, ◌∙◌}
-use Rattle.sd_base.specs.Disk.{BlockState, MayHold}
+use Rattle.sd_base.specs.Disk.{BlockState}
 use Rattle.sd_base.specs.Outcomes.{among}
 use Rattle.sd_base.specs.Calls.{KeepsForeign, KeepsForeignBut}
 use Rattle.sd_base.specs.Shape.{IsShape}

@@ -1,5 +1,5 @@
 -- What a call of one node leaves of the others: their frames, and what the table of owners says of them.
-use Rattle.std.specs.Prelude.{◌≡◌, ◌≢◌, ◌↔◌, ◌==◌, ◌<◌, ℕ, suc, Bool, true, false, IsTrue, List, [], ◌∷◌, Option, Some, None, All, length, slice_index_or, slice_set, if◌then◌else◌, refl}
+use Rattle.std.specs.Prelude.{◌≡◌, ◌≢◌, ◌↔◌, ◌==◌, ℕ, suc, Bool, true, false, List, [], ◌∷◌, Option, None, All, slice_index_or, slice_set, if◌then◌else◌, refl}
 use Rattle.std.proofs.Common.{arith, ap, inl, inr, subst, sym, ◌∙◌, get_or-set_other}
 use Rattle.std.proofs.lemmas.Bool.{eq-eqb, eqb-true}
 use Rattle.sd_base.specs.declared.device.NodeId.{NodeId}
@@ -8,7 +8,7 @@ use Rattle.frame_pool.specs.Frames.{frame_at}
 use Rattle.page_owner.specs.declared.owners.Own.{Own}
 use Rattle.page_owner.specs.declared.owners.Own.TheVariants.{Nobody, Parked, Out}
 use Rattle.page_owner.specs.Owners.{owner_of}
-use Rattle.node_cache.specs.Cache.{AreOwned, AreShown, CachedPage, CacheState, is_cached}
+use Rattle.node_cache.specs.Cache.{CachedPage}
 use Rattle.node_cache.specs.Room.{freed, given_up}
 use Rattle.node_cache.proofs.Without.{shows_same}
 use Rattle.store_nodes.specs.declared.node.Node.{Node}

@@ -1,5 +1,5 @@
 -- What a call of one node leaves of the store and of the disk that writes pages, where the node is up after it.
-use Rattle.std.specs.Prelude.{◌≡◌, ◌≢◌, ◌-◌, ◌/◌, ◌<◌, ◌≤◌, [], ℕ, true, List, Option, Some, None, All, slice_set, refl}
+use Rattle.std.specs.Prelude.{◌≡◌, ◌≢◌, ◌-◌, ◌/◌, ◌<◌, ◌≤◌, [], ℕ, List, Option, Some, None, All, slice_set, refl}
 use Rattle.std.specs.List.{cons_option}
 use Rattle.std.proofs.Common.{arith, inl, inr, ap, subst, subst₂, sym, ◌∙◌}
 use Rattle.std.proofs.lemmas.Bool.{cases_eq}
@@ -32,9 +32,10 @@ use Rattle.store_nodes.specs.Halting.{Halts}
 use Rattle.store_nodes.specs.Nodes.{IsAtWork, IsPlace, IsStore, OthersStay, is_up, node_at, pages_of, with_node}
 use Rattle.store_nodes.specs.Pages.{KeepsSeats}
 use Rattle.store_nodes.specs.Ports.{IsQuiet, IsQuietButOf, IsQuietOf, NarrowsBesides}
+use Rattle.txn_core.proofs.SeatLaws.{tied_same}
 use Rattle.store_nodes.proofs.Eight.{at_same, others_stay}
 use Rattle.store_nodes.proofs.OtherLogs.{LeavesRegion, pages_leave}
-use Rattle.store_nodes.proofs.Works.{place_inside, quiet_but, quiet_still, region_at, tied_same, up_most, work_at}
+use Rattle.store_nodes.proofs.Works.{place_inside, quiet_but, quiet_still, region_at, up_most, work_at}
 
 -- where the port stopped
 pub on_stop : (n : ℕ) (f : DevFault) (P : Type 0) → IsStopOf n f → OnStop f P → P

@@ -1,7 +1,7 @@
 -- What a page that goes from one node to another leaves.
 use Rattle.std.specs.Prelude.{◌≡◌, ◌≢◌, ◌<◌, ◌≤◌, ℕ, true, not, IsTrue, List, Option, None, Result, Ok, Err, IfErr, OnOk, length, slice_set, refl}
 use Rattle.std.specs.Result.{IsErrAnd}
-use Rattle.std.proofs.Common.{arith, inl, inr, ap, subst, sym, ◌∙◌, get_or-set_same, get_or-set_other}
+use Rattle.std.proofs.Common.{inl, inr, ap, subst, sym, ◌∙◌, get_or-set_same, get_or-set_other}
 use Rattle.std.proofs.lemmas.Bool.{cases_eq}
 use Rattle.sd_base.specs.Disk.{BlockState}
 use Rattle.sd_base.specs.Places.{map_of_data}

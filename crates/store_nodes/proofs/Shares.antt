@@ -1,5 +1,5 @@
 -- What a call of one node that takes or gives pages leaves of a store.
-use Rattle.std.specs.Prelude.{◌≡◌, ◌≢◌, ◌⊎◌, ◌↔◌, ◌+◌, ◌-◌, ◌*◌, ◌<◌, ◌≤◌, ℕ, List, [], ◌∷◌, Option, Some, None, All, IsTrue, length, slice_set, refl}
+use Rattle.std.specs.Prelude.{◌≡◌, ◌≢◌, ◌+◌, ◌-◌, ℕ, List, [], ◌∷◌, Option, Some, None, All, length, slice_set, refl}
 use Rattle.std.specs.List.{cons_option, remove}
 use Rattle.std.proofs.Common.{arith, inl, inr, ap, subst, sym, ◌∙◌, get_or-set_same, get_or-set_other, length-set}
 use Rattle.std.proofs.lemmas.Bool.{cases_eq, cases_lt}
@@ -15,14 +15,13 @@ use Rattle.page_owner.specs.Owners.{owner_of}
 use Rattle.node_cache.specs.Cache.{CachedPage, CacheState, is_page, page_at, place_of}
 use Rattle.node_cache.specs.Room.{freed, without_page}
 use Rattle.node_cache.proofs.Finding.{all_at, got}
-use Rattle.node_cache.proofs.Giving.{IsAt, page_placed}
-use Rattle.node_cache.proofs.Parking.{is_within}
+use Rattle.node_cache.proofs.Giving.{page_placed}
 use Rattle.node_cache.proofs.Without.{all_without}
 use Rattle.sd_base.proofs.Positions.{not_placed}
 use Rattle.txn_core.specs.Seats.{SeatsState}
 use Rattle.store_nodes.specs.declared.node.Node.{Node}
 use Rattle.store_nodes.specs.declared.node.Node.TheVariants.{Up}
-use Rattle.store_nodes.specs.Nodes.{AreApart, AreShared, IsAtWork, IsHeldBy, IsNode, IsPlace, IsStoreOf, KeepsFramesBut, count_of, node_at, pages_of, with_node}
+use Rattle.store_nodes.specs.Nodes.{AreApart, IsAtWork, IsHeldBy, IsNode, IsPlace, IsStoreOf, KeepsFramesBut, count_of, node_at, pages_of, with_node}
 use Rattle.store_nodes.proofs.Eight.{apart_with, cached_with, each_with}
 use Rattle.store_nodes.proofs.Others.{KeepsHeldBy, freed_others, held_before, node_stays}
 

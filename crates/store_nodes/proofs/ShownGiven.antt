@@ -1,5 +1,5 @@
 -- What a store shows after a node has given up a page.
-use Rattle.std.specs.Prelude.{◌≡◌, ◌≢◌, ◌⊎◌, ◌*◌, ◌<◌, ◌∷◌, [], ℕ, Bool, true, false, List, Option, Some, None, All, AllPairs, is_some, option_and_then, option_map, map, length, slice_index_or, slice_set, refl}
+use Rattle.std.specs.Prelude.{◌≡◌, ◌≢◌, ◌*◌, ◌<◌, [], ℕ, Bool, true, false, List, Option, Some, None, All, AllPairs, is_some, option_and_then, option_map, map, length, slice_index_or, slice_set, refl}
 use Rattle.std.specs.List.{cons_option, remove}
 use Rattle.std.proofs.Common.{arith, inl, inr, ap, subst, subst₂, sym, ◌∙◌, get_or-set_other}
 use Rattle.std.proofs.lemmas.Bool.{cases_eq}
@@ -15,13 +15,13 @@ use Rattle.page_owner.specs.declared.owners.Own.{Own}
 use Rattle.page_owner.specs.declared.owners.Own.TheVariants.{Nobody}
 use Rattle.page_owner.specs.Owners.{owner_of}
 use Rattle.private_log.specs.Log.{IsLogOn, SameLog}
-use Rattle.state_ids.specs.Blocks.{page_place}
 use Rattle.state_ids.specs.Held.{Shows}
-use Rattle.node_cache.specs.Cache.{CachedPage, CacheState, Changes, IsCache, IsOfStore, IsTiedToLog, first_change, is_changed, is_page, page_at, place_of}
+use Rattle.node_cache.specs.Cache.{CachedPage, CacheState, IsCache, IsOfStore, IsTiedToLog, first_change, is_changed, is_page, page_at, place_of}
 use Rattle.node_cache.specs.Room.{freed, without_page}
 use Rattle.node_cache.specs.Writes.{HoldsPages, NarrowsButPages}
+use Rattle.node_cache.proofs.Fetched.{has_more}
 use Rattle.node_cache.proofs.Finding.{got}
-use Rattle.node_cache.proofs.Giving.{IsAt, page_placed}
+use Rattle.node_cache.proofs.Giving.{page_placed}
 use Rattle.node_cache.proofs.OnePage.{found, is_page-same}
 use Rattle.node_cache.proofs.Without.{all_without, other_found, others_apart, shows_same}
 use Rattle.txn_core.specs.Seats.{SeatsState, txn_in}
@@ -37,7 +37,7 @@ use Rattle.store_nodes.proofs.Holders.{clean_later, settled_earlier}
 use Rattle.store_nodes.proofs.Living.{AreLiving}
 use Rattle.store_nodes.proofs.PageCalls.{all_found}
 use Rattle.store_nodes.proofs.Shares.{owner_given}
-use Rattle.store_nodes.proofs.ShownFetch.{has_more, still_stored, written_stored}
+use Rattle.store_nodes.proofs.Stored.{still_stored, written_stored}
 
 -- ---- the pages that stay
 

@@ -1,6 +1,6 @@
 -- Whoever holds a page, what a store shows of it is the same; and which pages nodes that are down hold.
-use Rattle.std.specs.Prelude.{◌≡◌, ◌==◌, ◌<◌, ◌≤◌, ⊤, ℕ, Bool, true, false, not, List, Option, Some, None, if◌then◌else◌, refl}
-use Rattle.std.proofs.Common.{arith, inl, inr, ap, subst, sym, ◌∙◌}
+use Rattle.std.specs.Prelude.{◌≡◌, ◌==◌, ◌<◌, ◌≤◌, ℕ, Bool, true, false, not, List, Option, Some, None, refl}
+use Rattle.std.proofs.Common.{arith, inl, inr, ap, ◌∙◌}
 use Rattle.sd_base.specs.Disk.{BlockState}
 use Rattle.sd_base.specs.Shape.{page_count}
 use Rattle.sd_base.specs.declared.device.NodeId.{NodeId}
@@ -9,7 +9,6 @@ use Rattle.sd_base.specs.declared.shape.Shape.{Shape}
 use Rattle.page_owner.specs.declared.owners.Own.{Own}
 use Rattle.page_owner.specs.declared.owners.Own.TheVariants.{Nobody, Out, Parked}
 use Rattle.page_owner.specs.Owners.{owner_of}
-use Rattle.script_text.specs.declared.reply.Reply.{Reply}
 use Rattle.script_text.specs.declared.reply.Reply.TheVariants as says
 use Rattle.record_machine.specs.Commands.{where_so}
 use Rattle.record_machine.specs.Machine.{Machine, is_down, put}
@@ -29,7 +28,7 @@ use Rattle.store_nodes.specs.Shows.{IsShown, ShowsNode, ShowsStore, ShowsStoreOf
 pub means_held : (p : Plain) (m : Machine) (x : ℕ) (h : Option ℕ) → Means p m → Means p (record m { hold = put x h m.hold })
 means_held p m x h was = record {
   pages = record { shape = was.pages.shape; count = was.pages.count; map_number = was.pages.map_number; number = was.pages.number; entries = was.pages.entries; map_ident = was.pages.map_ident; ident = was.pages.ident; alive = was.pages.alive; unused = was.pages.unused; present = was.pages.present; absent = was.pages.absent };
-  logs = record { tail = was.logs.tail; deeds = was.logs.deeds; homes = was.logs.homes };
+  logs = record { tail = was.logs.tail; deeds = was.logs.deeds; rising = was.logs.rising; homes = was.logs.homes };
   locked = record { apart = was.locked.apart; written = was.locked.written };
   tops = was.tops;
 }
@@ -78,7 +77,7 @@ held_shown c x b m is within shown = by (owner_of c.shared.owners x.0) refl
 means_dropped : (p : Plain) (m : Machine) (x n : ℕ) → Means p (one (Take x n) (one (Drop x) m)) → Means p (one (Take x n) m)
 means_dropped p m x n was = record {
   pages = record { shape = was.pages.shape; count = was.pages.count; map_number = was.pages.map_number; number = was.pages.number; entries = was.pages.entries; map_ident = was.pages.map_ident; ident = was.pages.ident; alive = was.pages.alive; unused = was.pages.unused; present = was.pages.present; absent = was.pages.absent };
-  logs = record { tail = was.logs.tail; deeds = was.logs.deeds; homes = was.logs.homes };
+  logs = record { tail = was.logs.tail; deeds = was.logs.deeds; rising = was.logs.rising; homes = was.logs.homes };
   locked = record { apart = was.locked.apart; written = was.locked.written };
   tops = was.tops;
 }

@@ -1,6 +1,6 @@
 -- What a node that is up shows after one record more in its log, where its pages stay.
 use Rattle.std.specs.Prelude.{◌≡◌, ◌≢◌, ◌+◌, ◌*◌, ◌<◌, ◌++◌, ◌∷◌, [], ℕ, List, Option, All, length, map, option_map, refl}
-use Rattle.std.proofs.Common.{arith, ap, subst, sym, ◌∙◌}
+use Rattle.std.proofs.Common.{arith, subst, sym, ◌∙◌}
 use Rattle.std.proofs.lemmas.List.{length-map}
 use Rattle.sd_base.specs.Disk.{BlockState}
 use Rattle.sd_base.specs.declared.shape.Shape.{Shape}

@@ -2,8 +2,7 @@
 use Rattle.std.specs.Prelude.{◌≡◌, refl, ◌+◌, ◌*◌, ◌%◌, ◌<◌, ◌≤◌, ℕ, List, Option, All, length, map, option_map, slice_index_or}
 use Rattle.std.proofs.Common.{arith, ap, subst, sym, ◌∙◌}
 use Rattle.sd_base.specs.Disk.{BlockState}
-use Rattle.sd_base.specs.Shape.{IsShape, page_count}
-use Rattle.sd_base.specs.declared.names.PageNo.{PageNo}
+use Rattle.sd_base.specs.Shape.{IsShape}
 use Rattle.sd_base.specs.declared.shape.Shape.{Shape}
 use Rattle.space_map.specs.Entry.{ident_of}
 use Rattle.log_record.specs.Legal.{IsLegal}
@@ -11,7 +10,7 @@ use Rattle.log_record.specs.Text.{record_text}
 use Rattle.private_log.specs.Content.{Ends, HasNoFuture, IsStale, LogContent, Region, place, region_of}
 use Rattle.private_log.specs.Log.{region}
 use Rattle.private_log.specs.Reading.{contents}
-use Rattle.private_log.specs.Spread.{IsStill, KeepsRegion, NarrowsRegion}
+use Rattle.private_log.specs.Spread.{KeepsRegion, NarrowsRegion}
 use Rattle.private_log.proofs.OtherCalls.{on_narrowed}
 use Rattle.private_log.proofs.Places.{place-in}
 use Rattle.state_ids.specs.Held.{Shows}

@@ -1,7 +1,7 @@
 -- What a store shows after a node has fetched a page that no other one has.
-use Rattle.std.specs.Prelude.{◌≡◌, ◌≢◌, ◌⊎◌, ◌==◌, ◌-◌, ◌<◌, ◌≤◌, ◌∷◌, [], ℕ, Bool, true, false, IsTrue, List, Option, Some, None, All, IfSome, length, slice_set, if◌then◌else◌, refl}
+use Rattle.std.specs.Prelude.{◌≡◌, ◌≢◌, ◌==◌, ◌-◌, ◌<◌, ◌≤◌, [], ℕ, Bool, true, false, List, Option, Some, IfSome, slice_set, refl}
 use Rattle.std.proofs.Common.{arith, inl, inr, ap, subst, sym, ◌∙◌}
-use Rattle.std.proofs.lemmas.Bool.{cases_eq, eqb-true}
+use Rattle.std.proofs.lemmas.Bool.{eqb-true}
 use Rattle.std.proofs.lemmas.List.Elements.{All-nil}
 use Rattle.sd_base.specs.Disk.{BlockState, IsLawful}
 use Rattle.sd_base.specs.Shape.{page_count}
@@ -20,6 +20,7 @@ use Rattle.state_ids.specs.Held.{Shows}
 use Rattle.node_cache.specs.Cache.{CacheState, is_cached, is_changed, page_at}
 use Rattle.node_cache.specs.Room.{Arrived, IsEntryOf, IsOpenTo, freed, leaving, parked, staying}
 use Rattle.node_cache.specs.Writes.{HoldsPages, NarrowsButPages}
+use Rattle.node_cache.proofs.Fetched.{uncached}
 use Rattle.node_cache.proofs.ChangedPages.{out_of_shown}
 use Rattle.node_cache.proofs.Leaving.{all_left}
 use Rattle.txn_core.specs.Seats.{SeatsState}
@@ -30,23 +31,23 @@ use Rattle.record_machine.proofs.LockSteps.{means_taken}
 use Rattle.store_nodes.specs.declared.node.Node.{Node}
 use Rattle.store_nodes.specs.declared.node.Node.TheVariants.{Idle, Up, Down}
 use Rattle.store_nodes.specs.declared.store.Store.{Store}
-use Rattle.store_nodes.specs.Nodes.{IsHeldBy, IsNode, IsPlace, IsStore, KeepsFramesBut, OnUp, is_up, node_at, with_node}
-use Rattle.store_nodes.specs.Shows.{IsHolderUp, IsOnDisk, IsSettled, IsShown, ShowsNode, ShowsStoreOf, holder}
+use Rattle.store_nodes.specs.Nodes.{IsNode, IsPlace, IsStore, KeepsFramesBut, OnUp, is_up, node_at, with_node}
+use Rattle.store_nodes.specs.Shows.{IsHolderUp, IsSettled, IsShown, ShowsNode, ShowsStoreOf, holder}
 use Rattle.store_nodes.proofs.Eight.{same_there}
 use Rattle.store_nodes.proofs.Holders.{clean_later, holder_taken, put_at, settled_earlier}
 use Rattle.store_nodes.proofs.Living.{living}
 use Rattle.store_nodes.proofs.OtherLogs.{LeavesRegion}
 use Rattle.store_nodes.proofs.Others.{KeepsHeldBy}
-use Rattle.store_nodes.proofs.ShownFetch.{stored_fetched, uncached, up_fetched, up_taken}
+use Rattle.store_nodes.proofs.ShownFetch.{stored_fetched, up_fetched, up_taken}
 use Rattle.store_nodes.proofs.ShownWith.{shown_with}
 use Rattle.store_nodes.proofs.Takes.{all_out, owner_fetched}
 use Rattle.store_nodes.proofs.Works.{work_at}
 
 -- ---- a page that no other node has
 
--- and that the node hasn't cached: no node has changes of it
-pub settled_open : (me : Store) (n : NodeId) (x : PageNo) (c : CacheState) (seats : SeatsState) → IsStore me → IsPlace n.0 → node_at me.nodes n.0 ≡ Up c seats → IsOpenTo n (owner_of me.shared.owners x.0) → is_cached x c ≡ false → IsSettled me.nodes me.shared.owners x
-settled_open me n x c seats is place up free missing = record {
+-- and of which the node has no changes: no node has any
+pub settled_clean : (me : Store) (n : NodeId) (x : PageNo) (c : CacheState) (seats : SeatsState) → IsStore me → IsPlace n.0 → node_at me.nodes n.0 ≡ Up c seats → IsOpenTo n (owner_of me.shared.owners x.0) → is_changed x c ≡ false → IsSettled me.nodes me.shared.owners x
+settled_clean me n x c seats is place up free clean = record {
   holder = holds (owner_of me.shared.owners x.0) free;
   clean = λ k k_is. by k k_is (node_at me.nodes k) refl (is.is k k_is);
 }
@@ -75,8 +76,11 @@ settled_open me n x c seats is place up free missing = record {
             let here : k ≡ n.0 = sym was.number ∙ ap (λ (i : NodeId). i.0) same in
             let both : Up d after ≡ Up c seats = sym at ∙ ap (node_at me.nodes) here ∙ up in
             let one_cache : d ≡ c = cc in
-            let contra : true ≡ false = sym there ∙ ap (is_cached x) one_cache ∙ missing in
-            cc
+            ap (is_changed x) one_cache ∙ clean
+
+-- as where it hasn't cached it
+pub settled_open : (me : Store) (n : NodeId) (x : PageNo) (c : CacheState) (seats : SeatsState) → IsStore me → IsPlace n.0 → node_at me.nodes n.0 ≡ Up c seats → IsOpenTo n (owner_of me.shared.owners x.0) → is_cached x c ≡ false → IsSettled me.nodes me.shared.owners x
+settled_open me n x c seats is place up free missing = settled_clean me n x c seats is place up free (uncached x c missing)
 
 -- ---- a page that the node holds already
 

@@ -1,7 +1,6 @@
 -- What a store shows after a call of one node, by what that node shows.
-use Rattle.std.specs.Prelude.{◌≡◌, ◌≢◌, ◌⊎◌, ◌/◌, ◌<◌, ◌≤◌, ℕ, Bool, true, false, List, Option, Some, None, All, is_some, length, option_and_then, refl}
-use Rattle.std.proofs.Common.{inl, inr, ap, subst, sym, ◌∙◌}
-use Rattle.std.proofs.lemmas.Bool.{cases_eq}
+use Rattle.std.specs.Prelude.{◌≡◌, ◌≢◌, ◌<◌, ◌≤◌, ℕ, false, List, Option, is_some, length, option_and_then}
+use Rattle.std.proofs.Common.{inl, inr, ap}
 use Rattle.sd_base.specs.Disk.{BlockState}
 use Rattle.sd_base.specs.Shape.{page_count}
 use Rattle.sd_base.specs.declared.device.NodeId.{NodeId}
@@ -9,25 +8,25 @@ use Rattle.sd_base.specs.declared.names.PageNo.{PageNo}
 use Rattle.sd_base.specs.declared.shape.Shape.{Shape}
 use Rattle.private_log.specs.Content.{region_of}
 use Rattle.private_log.specs.Frames.{NarrowsBeside}
-use Rattle.private_log.specs.Log.{next_place, region}
+use Rattle.private_log.specs.Log.{next_place}
 use Rattle.page_owner.specs.declared.owners.Own.{Own}
-use Rattle.page_owner.specs.declared.owners.Own.TheVariants.{Nobody, Out, Parked}
 use Rattle.page_owner.specs.Owners.{owner_of}
 use Rattle.state_ids.specs.Blocks.{page_place}
-use Rattle.node_cache.specs.Cache.{CachedPage, CacheState, IsOfStore, IsTiedToLog, first_change, is_changed, page_at}
+use Rattle.node_cache.specs.Cache.{CacheState, IsOfStore, IsTiedToLog, first_change, is_changed, page_at}
 use Rattle.node_cache.proofs.DiskTie.{not_in_ring}
 use Rattle.txn_core.specs.Seats.{SeatsState}
 use Rattle.record_machine.specs.Machine.{Machine}
 use Rattle.record_machine.specs.Machine as mode
 use Rattle.record_machine.specs.Meaning.{Means, Plain}
 use Rattle.store_nodes.specs.declared.node.Node.{Node}
-use Rattle.store_nodes.specs.declared.node.Node.TheVariants.{Idle, Up, Down}
-use Rattle.store_nodes.specs.Nodes.{IsHeldBy, IsPlace, IsStoreOf, KeepsFramesBut, OnUp, is_up, node_at, with_node}
-use Rattle.store_nodes.specs.Shows.{IsHolderUp, IsOnDisk, IsSettled, ShowsNode, ShowsStoreOf, ShowsUp, holder}
-use Rattle.store_nodes.proofs.Eight.{at_other, at_same, each_with}
+use Rattle.store_nodes.specs.declared.node.Node.TheVariants.{Up}
+use Rattle.store_nodes.specs.Nodes.{IsHeldBy, IsPlace, IsStoreOf, KeepsFramesBut, node_at, with_node}
+use Rattle.store_nodes.specs.Shows.{IsOnDisk, IsSettled, ShowsNode, ShowsStoreOf, ShowsUp, holder}
+use Rattle.store_nodes.proofs.Holders.{clean_later, settled_earlier}
+use Rattle.store_nodes.proofs.Others.{KeepsHeldBy}
+use Rattle.store_nodes.proofs.Eight.{each_with}
 use Rattle.store_nodes.proofs.OtherLogs.{LeavesRegion, regions_at}
 use Rattle.store_nodes.proofs.ShownOthers.{LeavesNode, node_left}
-use Rattle.store_nodes.proofs.Works.{up_most}
 
 -- ---- the node, and the others
 
@@ -49,28 +48,11 @@ module _ (s : Shape) (pool pool' : List (Option (List ℕ))) (owners owners' : L
 -- ---- what is on the disk
 
 -- a page is settled as before, where the node is up still and has the changes that it had
-module _ (nodes : List Node) (owners : List Own) (n : ℕ) (c d : CacheState) (seats after : SeatsState) (eight : length nodes ≡ 8) (place : IsPlace n) (up : node_at nodes n ≡ Up c seats) where
-  up_before : (k : NodeId) → IsPlace k.0 → is_up (node_at (with_node nodes n (Up d after)) k.0) ≡ true → is_up (node_at nodes k.0) ≡ true
-  up_before k k_is is = elim (cases_eq k.0 n) [
-    | inl same ↦ ap (λ j. is_up (node_at nodes j)) same ∙ ap is_up up
-    | inr far ↦ ap is_up (sym (at_other nodes n (Up d after) eight place k.0 k_is far)) ∙ is
-  ]
-
-  holder_before : (own : Own) → ((k : NodeId) → IsHeldBy k own → IsPlace k.0) → IsHolderUp (with_node nodes n (Up d after)) own → IsHolderUp nodes own
-  holder_before Nobody known is = tt
-  holder_before (Parked k) known is = up_before k (known k (inl refl)) is
-  holder_before (Out k) known is = up_before k (known k (inr refl)) is
-
-  pub settled_before : (x : PageNo) → ((k : NodeId) → IsHeldBy k (owner_of owners x.0) → IsPlace k.0) → (is_changed x d ≡ false → is_changed x c ≡ false) → IsSettled (with_node nodes n (Up d after)) owners x → IsSettled nodes owners x
-  settled_before x known same was = record {
-    holder = holder_before (owner_of owners x.0) known was.holder;
-    clean = λ k k_is. elim (cases_eq k n) [
-      | inl here ↦
-          let now : OnUp (Up d after) (λ e seats. is_changed x e ≡ false) = subst (λ o. OnUp o (λ e seats. is_changed x e ≡ false)) (at_same nodes n (Up d after) eight place) (was.clean n place) in
-          subst (λ j. OnUp (node_at nodes j) (λ e seats. is_changed x e ≡ false)) (sym here) (subst (λ o. OnUp o (λ e seats. is_changed x e ≡ false)) (sym up) (same now))
-      | inr far ↦ subst (λ o. OnUp o (λ e seats. is_changed x e ≡ false)) (at_other nodes n (Up d after) eight place k k_is far) (was.clean k k_is)
-    ];
-  }
+pub settled_before : (nodes : List Node) (owners : List Own) (n : ℕ) (c d : CacheState) (seats after : SeatsState) → length nodes ≡ 8 → IsPlace n → node_at nodes n ≡ Up c seats
+    → (x : PageNo) → ((k : NodeId) → IsHeldBy k (owner_of owners x.0) → IsPlace k.0) → (is_changed x d ≡ false → is_changed x c ≡ false) → IsSettled (with_node nodes n (Up d after)) owners x → IsSettled nodes owners x
+settled_before nodes owners n c d seats after eight place up x known same was =
+    let keeps : (m : ℕ) → m ≢ n → KeepsHeldBy m owners owners = λ m far y own held. (λ there. there, λ there. there) in
+    settled_earlier nodes owners owners n c d seats after eight place up keeps x known (same (clean_later nodes owners owners n c d seats after eight place up keeps x was)) was
 
 -- a page on the disk stays so, where only the log was written
 pub stored_beside : (s : Shape) (p : Plain) (c : CacheState) (x : PageNo) (b b' : ℕ → BlockState) → IsOfStore s c → IsTiedToLog c → NarrowsBeside (next_place c.log) b b' → IsOnDisk s b p x → IsOnDisk s b' p x

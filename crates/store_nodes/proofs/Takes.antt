@@ -1,8 +1,8 @@
 -- What a fetch of one node leaves of a store.
-use Rattle.std.specs.Prelude.{◌≡◌, ◌≢◌, ◌⊎◌, ◌↔◌, ◌+◌, ◌-◌, ◌*◌, ◌<◌, ◌≤◌, ◌++◌, ℕ, Bool, true, false, zero, suc, List, [], ◌∷◌, Option, Some, None, Ok, Err, All, length, is_some, slice_index_or, slice_set, refl}
+use Rattle.std.specs.Prelude.{◌≡◌, ◌≢◌, ◌⊎◌, ◌+◌, ◌-◌, ◌*◌, ◌<◌, ◌≤◌, ℕ, zero, suc, List, [], ◌∷◌, Option, None, All, length, is_some, slice_index_or, slice_set, refl}
 use Rattle.std.specs.List.{fold, sum_by}
-use Rattle.std.proofs.Common.{arith, inl, inr, ap, subst, sym, ◌∙◌, get_or-set_same, get_or-set_other, length-set}
-use Rattle.std.proofs.lemmas.Bool.{cases_eq, cases_lt}
+use Rattle.std.proofs.Common.{arith, inl, inr, ap, subst, sym, ◌∙◌, get_or-set_other, length-set}
+use Rattle.std.proofs.lemmas.Bool.{cases_lt}
 use Rattle.std.proofs.lemmas.List.Elements.{All-push, All-nil}
 use Rattle.std.proofs.Math.ListN.{get_or-eq_default}
 use Rattle.sd_base.specs.declared.device.NodeId.{NodeId}
@@ -11,9 +11,9 @@ use Rattle.sd_base.specs.declared.shape.Shape.{Shape}
 use Rattle.frame_pool.specs.Frames.{IsOut, frame_at, free_count}
 use Rattle.space_map.specs.declared.map_entry.MapEntry.{MapEntry}
 use Rattle.page_owner.specs.declared.owners.Own.{Own}
-use Rattle.page_owner.specs.declared.owners.Own.TheVariants.{Nobody, Out, Parked}
+use Rattle.page_owner.specs.declared.owners.Own.TheVariants.{Out, Parked}
 use Rattle.page_owner.specs.Owners.{owner_of}
-use Rattle.node_cache.specs.Cache.{AreOwned, CachedPage, CacheState, IsCache, is_cached, is_page}
+use Rattle.node_cache.specs.Cache.{AreOwned, CachedPage, CacheState, IsCache, is_page}
 use Rattle.node_cache.specs.Room.{Arrived, IsEntryOf, IsOpenTo, Missed, freed, leaving, parked, staying}
 use Rattle.node_cache.proofs.Leaving.{all_left, all_stay}
 use Rattle.node_cache.proofs.Parking.{all_owned, length-parked}

@@ -1,5 +1,5 @@
 -- What a call that logs a record leaves of a store, where the pages in the caches stay.
-use Rattle.std.specs.Prelude.{◌≡◌, ◌≢◌, ◌+◌, ◌-◌, ◌*◌, ◌<◌, ◌≤◌, ◌⊎◌, ◌↔◌, ℕ, true, false, IsTrue, List, [], Option, Some, None, All, is_some, length, refl}
+use Rattle.std.specs.Prelude.{◌≡◌, ◌+◌, ◌-◌, ◌<◌, ◌≤◌, ◌↔◌, ℕ, true, IsTrue, List, Option, Some, None, All, is_some, length, refl}
 use Rattle.std.proofs.Common.{arith, inl, inr, ap, subst, sym, ◌∙◌, length-set}
 use Rattle.std.proofs.lemmas.Bool.{cases_eq}
 use Rattle.sd_base.specs.Disk.{BlockState, DiskState, IsFreeFor}
@@ -13,21 +13,21 @@ use Rattle.page_owner.specs.declared.owners.Own.TheVariants.{Out}
 use Rattle.page_owner.specs.Owners.{owner_of}
 use Rattle.private_log.specs.Content.{place, region_of}
 use Rattle.private_log.specs.Frames.{IsInReach}
-use Rattle.private_log.specs.Log.{SameLog, next_place, region, tail_place}
+use Rattle.private_log.specs.Log.{SameLog, region, tail_place}
 use Rattle.private_log.specs.Reading.{IsInRegion}
 use Rattle.private_log.specs.Spread.{IsFreeRegion}
 use Rattle.private_log.proofs.Places.{place-in}
 use Rattle.private_log.proofs.Regions.{before_pages, regions_apart}
 use Rattle.state_ids.specs.Blocks.{ShowsPage, page_place}
 use Rattle.sd_base.specs.declared.names.PageNo.{PageNo}
-use Rattle.node_cache.specs.Cache.{AreOut, AreOwned, CachedPage, CacheState, IsCache, IsOfStore, IsTiedToLog, is_cached, is_page, page_at, place_of}
+use Rattle.node_cache.specs.Cache.{AreOwned, CacheState, IsCache, IsOfStore, IsTiedToLog, is_cached, page_at}
 use Rattle.node_cache.proofs.DiskTie.{not_in_ring}
 use Rattle.txn_core.specs.Seats.{AreTied, SeatsState}
 use Rattle.node_cache.proofs.ChangedPages.{out_of_shown}
-use Rattle.txn_core.proofs.SeatLaws.{all_longer, store_since}
+use Rattle.txn_core.proofs.SeatLaws.{store_since}
 use Rattle.store_nodes.specs.declared.node.Node.{Node}
 use Rattle.store_nodes.specs.declared.node.Node.TheVariants.{Idle, Up, Down}
-use Rattle.store_nodes.specs.Nodes.{AreApart, AreShared, CanEnd, CanHalt, IsAtWork, IsNode, IsPlace, IsStoreOf, IsStoreButOf, OthersStay, count_of, is_up, node_at, pages_of, with_node}
+use Rattle.store_nodes.specs.Nodes.{AreApart, AreShared, CanHalt, IsAtWork, IsNode, IsPlace, IsStoreOf, IsStoreButOf, OthersStay, count_of, is_up, node_at, pages_of, with_node}
 use Rattle.store_nodes.specs.Ports.{AreLive, AreLiveBut, IsOwnWrite, IsQuietOf, IsQuietButOf, IsServedButOf, IsServedOf}
 use Rattle.store_nodes.proofs.Eight.{apart_with, at_other, at_same, cached_with, each_with}
 
@@ -223,16 +223,3 @@ page_quiet s c x n b b' store tie writers none = elim (writers (page_place s x))
   | inr (inl gone) ↦ gone
   | inr (inr here) ↦ absurd (not_in_ring s c store tie _ x here.0)
 ]
-
--- the tie of the seats, through a call that leaves the log as long as it was
-pub tied_same : (s : SeatsState) (c d : CacheState) → d.node ≡ c.node → SameLog c.log d.log → d.log.tail ≡ c.log.tail → AreTied s c → AreTied s d
-tied_same s c d node same tail tie =
-    let ring : d.log.shape.ring ≡ c.log.shape.ring = ap (λ shape. shape.ring) same.shape in
-    let start = same.start in
-    let room = tie.room in
-    record {
-      node = tie.node ∙ sym node;
-      room = omega (arith, ring, start, tail, room);
-      within = all_longer c.log d.log s.seats start (omega (arith, tail)) tie.within;
-      apart = tie.apart;
-    }

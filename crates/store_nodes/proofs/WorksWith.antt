@@ -1,16 +1,15 @@
 -- What calls of one node leave, one after the other, where others may have to give up pages in them.
-use Rattle.std.specs.Prelude.{◌≡◌, ◌≢◌, ◌⊎◌, ⊤, ℕ, true, false, List, refl}
+use Rattle.std.specs.Prelude.{◌≡◌, ◌≢◌, ℕ, true, false, List, refl}
 use Rattle.std.proofs.Common.{inl, inr, ap, subst, sym, ◌∙◌}
 use Rattle.std.proofs.lemmas.Bool.{cases_eq}
 use Rattle.sd_base.specs.Calls.{Keeps}
 use Rattle.sd_base.specs.Disk.{BlockState, DiskState}
 use Rattle.sd_base.specs.Faults.{Grew-keeps, Grew-same, Grew-then}
-use Rattle.sd_base.specs.Shape.{page_count}
 use Rattle.store_nodes.specs.declared.node.Node.{Node}
 use Rattle.store_nodes.specs.declared.node.Node.TheVariants.{Idle, Up, Down}
 use Rattle.store_nodes.specs.declared.store.Store.{Store}
 use Rattle.store_nodes.specs.Nodes.{IsPlace, OnUp, is_up, node_at}
-use Rattle.store_nodes.specs.Pages.{KeepsSeats}
+use Rattle.store_nodes.specs.Pages.{KeepsSeats, KeepsWork}
 use Rattle.store_nodes.specs.Ports.{IsReady, IsWorker, KeepsPorts, NarrowsWith, StaysOrStops, Works, WorksWith, Writes, WritesWith}
 
 -- ---- another node
@@ -31,6 +30,14 @@ seats_then Down b c first next = by b first next
     by Idle first next = cc
     by (Up k seats) first next = cc
     by Down first next = next
+
+-- the work of a node is kept by two calls, where each keeps it
+pub work_then : (n : ℕ) (a b c : Store) → KeepsWork n a b → KeepsWork n b c → KeepsWork n a c
+work_then n a b c first next = record {
+  locks = next.locks ∙ first.locks;
+  reopening = next.reopening ∙ first.reopening;
+  seats = seats_then (node_at a.nodes n) (node_at b.nodes n) (node_at c.nodes n) first.seats next.seats;
+}
 
 pub seats_same : (a b : Node) → b ≡ a → KeepsSeats a b
 seats_same Idle b same = same

@@ -1,5 +1,5 @@
 -- Which blocks of the devices a call of a node leaves as they are.
-use Rattle.std.specs.Prelude.{◌≡◌, ◌≢◌, ◌⊎◌, ◌+◌, ◌%◌, ◌≤◌, ◌<◌, ℕ, List, Option, None, IsTrue, length}
+use Rattle.std.specs.Prelude.{◌≡◌, ◌≢◌, ◌⊎◌, ◌+◌, ◌%◌, ◌≤◌, ◌<◌, ℕ, List, Option, length}
 use Rattle.sd_base.specs.Disk.{BlockState, MayHold}
 use Rattle.sd_base.specs.Places.{map_of_data}
 use Rattle.sd_base.specs.Shape.{page_count}
@@ -13,6 +13,7 @@ use Rattle.node_cache.specs.Room.{IsOpenTo}
 use Rattle.store_nodes.specs.declared.store.Store.{Store}
 use Rattle.store_nodes.specs.Nodes.{OnUp, node_at}
 use Rattle.store_nodes.specs.Pages.{HasCached}
+use Rattle.store_nodes.specs.Shows.{holder}
 
 -- each block that isn't one of the ring of node n's log has the content that it had
 abbrev pub KeepsAllButLog : ℕ → Shape → (ℕ → BlockState) → (ℕ → BlockState) → Type 0
@@ -48,6 +49,10 @@ pub record TookPage (n : NodeId) (x : PageNo) (c d : Store) (old new : ℕ → B
   pub came : (y : PageNo) → HasCached d n.0 y → (y ≡ x) ⊎ HasCached c n.0 y
   pub full : IsFull c n.0 → IsFull d n.0
   pub room : (y : PageNo) → y.0 < page_count c.shape → KeepsPage c.shape y old new ⊎ (HasCached c n.0 y × IsFull d n.0 × (c.shape.maps ≤ x.0 → y ≢ map_of_data c.shape x)) ⊎ ((y ≡ x) × ¬ (IsOpenTo n (owner_of c.shared.owners x.0)))
+
+-- each page but this one is held by the node that held it, or by none as before
+abbrev pub KeepsHoldersBut : PageNo → Store → Store → Type 0
+KeepsHoldersBut x c d = (y : PageNo) → y ≢ x → holder (owner_of d.shared.owners y.0) ≡ holder (owner_of c.shared.owners y.0)
 
 -- no page comes into the node's cache or goes, and no page's block changes
 pub record KeepsCache (n : ℕ) (c d : Store) (old new : ℕ → BlockState) : Type 0 where

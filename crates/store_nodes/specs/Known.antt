@@ -1,5 +1,6 @@
 -- What a command is refused for by what is in memory.
-use Rattle.std.specs.Prelude.{◌∷◌, [], ◌-◌, ◌*◌, ℕ, Bool, true, false, not, nat_lt, option_map, Option, Some, None, Result, Ok, Err}
+use Rattle.std.specs.Prelude.{◌∷◌, [], ◌-◌, ◌*◌, ℕ, Bool, true, false, not, nat_lt, option_map, Option, Some, None, Result, Ok, Err, if◌then◌else◌}
+use Rattle.std.specs.List.{find, range_with_len}
 use Rattle.sd_base.specs.declared.device.NodeId.{NodeId}
 use Rattle.sd_base.specs.declared.names.Key.{Key}
 use Rattle.sd_base.specs.declared.names.TxnId.{TxnId}
@@ -33,6 +34,11 @@ is_idle Idle = true
 is_idle (Up c seats) = false
 is_idle Down = false
 
+abbrev pub is_down : Node → Bool
+is_down Idle = false
+is_down (Up c seats) = false
+is_down Down = true
+
 -- the store has no such node; the node isn't idle, or isn't up
 abbrev pub no_node : Store → NodeId → Option Reply
 no_node c n = where_so (nat_lt c.shape.nodes n.0) (says.NoNode n)
@@ -58,6 +64,14 @@ no_lock c key t mode = lock_refusal (lock_answer c.shared.locks key t mode)
 abbrev pub any_lock : Store → Option Reply
 any_lock c = option_map says.Busy (least_where (λ l mode. true) c.shared.locks)
 
+-- the first node of the store that is down
+abbrev pub first_down : Store → Option NodeId
+first_down c = option_map (λ n. record { 0 = n }) (find (λ n. is_down (node_at c.nodes n)) (range_with_len 1 c.shape.nodes))
+
+-- all nodes had stopped, and not all of them are recovered yet: the first one that isn't
+abbrev pub reopening : Store → Option Reply
+reopening c = if c.shared.reopening then option_map says.Reopening (first_down c) else None
+
 -- a node that is down has the page
 abbrev pub held_by : Store → PageNo → Own → Option Reply
 held_by c x Nobody = None
@@ -75,7 +89,7 @@ no_room c n need = where_so (nat_lt (room_in (node_at c.nodes n.0)) need) (says.
 abbrev pub known : Store → Command → Option Reply
 known c (asks.Format s) = Some says.Formatted
 known c (asks.Start n) = first_of (no_node c n ∷ not_idle c n ∷ [])
-known c (asks.Begin t) = first_of (no_node c t.node ∷ not_up c t.node ∷ busy c t ∷ no_room c t.node 2 ∷ [])
+known c (asks.Begin t) = first_of (no_node c t.node ∷ not_up c t.node ∷ busy c t ∷ reopening c ∷ no_room c t.node 2 ∷ [])
 known c (asks.Get t key) = first_of (no_node c t.node ∷ not_up c t.node ∷ no_txn c t ∷ no_lock c key t locks.Read ∷ [])
 known c (asks.Put t key value) = first_of (no_node c t.node ∷ not_up c t.node ∷ no_txn c t ∷ no_lock c key t locks.Write ∷ [])
 known c (asks.Commit t) = first_of (no_node c t.node ∷ not_up c t.node ∷ no_txn c t ∷ [])
@@ -85,7 +99,7 @@ known c (asks.Del t key) = first_of (no_node c t.node ∷ not_up c t.node ∷ no
 known c (asks.Flush n) = first_of (no_node c n ∷ not_up c n ∷ [])
 known c (asks.Stat n) = no_node c n
 known c (asks.Abort t) = first_of (no_node c t.node ∷ not_up c t.node ∷ no_txn c t ∷ [])
-known c (asks.Dump n) = first_of (no_node c n ∷ not_up c n ∷ any_lock c ∷ [])
+known c (asks.Dump n) = first_of (no_node c n ∷ not_up c n ∷ any_lock c ∷ reopening c ∷ [])
 
 -- what is told of a node: of one that is up how many records its log has, how many its transactions may still need, and
 -- how many more there is room for

@@ -20,7 +20,7 @@ use Rattle.txn_core.specs.declared.change.Change.TheVariants.{Put, Append, Delet
 use Rattle.store_nodes.specs.declared.node.Node.{Node}
 use Rattle.store_nodes.specs.declared.node.Node.TheVariants.{Idle, Up, Down}
 use Rattle.store_nodes.specs.declared.store.Store.{Store}
-use Rattle.store_nodes.specs.Nodes.{IsPlace, OnUp, is_up, node_at}
+use Rattle.store_nodes.specs.Nodes.{OnUp, is_up, node_at}
 
 -- ---- what a node has cached
 

@@ -1,5 +1,5 @@
 -- What a store asks of its devices, and what a call of one node leaves of the store and of them.
-use Rattle.std.specs.Prelude.{◌≡◌, ◌≢◌, ◌⊎◌, ◌<◌, ◌-◌, ⊤, ℕ, Bool, true, false, List, Option, None, Some, Result, Ok, Err, nat_le, if◌then◌else◌}
+use Rattle.std.specs.Prelude.{◌≡◌, ◌≢◌, ◌⊎◌, ◌<◌, ◌-◌, ⊤, ℕ, Bool, true, false, List, Option, Some, Result, Ok, Err, nat_le, if◌then◌else◌}
 use Rattle.sd_base.specs.Calls.{Keeps}
 use Rattle.sd_base.specs.Disk.{BlockState, DiskState, MayHold, Rose}
 use Rattle.sd_base.specs.Faults.{Grew}

@@ -96,7 +96,7 @@ impl Store {
     /// The update of a transaction that is to be taken back after the one with this number or, where none is
     /// given, next; and its page, a data page of the store. It is read from the log of the transaction's
     /// node; where that can't be, a block of it is said to be damaged.
-    pub(crate) fn update_after<D: Disk, V: Disk>(
+    pub fn update_after<D: Disk, V: Disk>(
         &mut self,
         disk: &mut D,
         vault: &mut V,
@@ -196,7 +196,7 @@ impl Store {
     ///
     /// How many these are is counted only where the page hasn't room for all that the node's open
     /// transactions may need.
-    pub(crate) fn test_room<D: Disk, V: Disk>(
+    pub fn test_room<D: Disk, V: Disk>(
         &mut self,
         disk: &mut D,
         vault: &mut V,

@@ -4,7 +4,7 @@
 ghost use Rattle.std.specs.Prelude.{◌≡◌, ◌≤◌, ◌∷◌, []};
 ghost use Rattle.script_text.specs.Command.{InRange};
 ghost use Rattle.record_machine.specs.Commands.{first_of};
-ghost use Rattle.store_nodes.specs.Known.{any_lock, busy, checked, known, no_lock, no_node, no_room, no_txn, not_idle, not_up, state_of};
+ghost use Rattle.store_nodes.specs.Known.{any_lock, busy, checked, first_down, known, no_lock, no_node, no_room, no_txn, not_idle, not_up, reopening, state_of};
 ghost use Rattle.store_nodes.specs.Nodes.{IsPlace, IsStore, node_at};
 ghost use Rattle.store_nodes.specs.Pages.{has_txn, room_in};
 
@@ -99,15 +99,45 @@ impl Store {
         Ok(())
     }
 
-    /// The node is up, the seat is free, and the log has room for a transaction.
+    /// The first node of the store that is down.
+    fn first_down(&self) -> Option<NodeId>
+        requires is { IsStore self.now }
+        ensures { result ≡ first_down self.now }
+    {
+        for i in 0..self.shape.nodes {
+            let n = NodeId(i + 1);
+            if self.node(n).is_down() {
+                return Some(n);
+            }
+        }
+        None
+    }
+
+    /// The tables of locks and owners aren't lost, or all nodes are recovered since.
+    fn check_reopening(&self) -> Result<(), Reply>
+        requires is { IsStore self.now }
+        ensures { result ≡ checked (reopening self.now) }
+    {
+        if !self.shared.reopening {
+            return Ok(());
+        }
+        match self.first_down() {
+            Some(n) => Err(Reply::Reopening(n)),
+            None => Ok(()),
+        }
+    }
+
+    /// The node is up, the seat is free, the store isn't being reopened, and the log has room for a
+    /// transaction.
     fn check_begin(&self, t: TxnId) -> Result<(), Reply>
         requires node { 1 ≤ t.node.0 }
         requires seat { t.seat ≤ 7 }
         requires is { IsStore self.now }
-        ensures { result ≡ checked (first_of (no_node self.now t.node ∷ not_up self.now t.node ∷ busy self.now t ∷ no_room self.now t.node 2 ∷ [])) }
+        ensures { result ≡ checked (first_of (no_node self.now t.node ∷ not_up self.now t.node ∷ busy self.now t ∷ reopening self.now ∷ no_room self.now t.node 2 ∷ [])) }
     {
         self.check_up(t.node)?;
         self.check_free(t)?;
+        self.check_reopening()?;
         self.check_room(t.node, 2)
     }
 
@@ -135,14 +165,15 @@ impl Store {
         }
     }
 
-    /// The node is up, and no transaction has a lock.
+    /// The node is up, no transaction has a lock, and the store isn't being reopened.
     fn check_dump(&self, n: NodeId) -> Result<(), Reply>
         requires node { 1 ≤ n.0 }
         requires is { IsStore self.now }
-        ensures { result ≡ checked (first_of (no_node self.now n ∷ not_up self.now n ∷ any_lock self.now ∷ [])) }
+        ensures { result ≡ checked (first_of (no_node self.now n ∷ not_up self.now n ∷ any_lock self.now ∷ reopening self.now ∷ [])) }
     {
         self.check_up(n)?;
-        self.check_unlocked()
+        self.check_unlocked()?;
+        self.check_reopening()
     }
 
     /// The transaction may have the lock.

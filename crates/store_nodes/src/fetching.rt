@@ -12,7 +12,7 @@ ghost use Rattle.record_machine.specs.Machine.{Machine};
 ghost use Rattle.record_machine.specs.Parts.{Take, one};
 ghost use Rattle.store_nodes.specs.declared.node.Node.TheVariants.{Down};
 ghost use Rattle.store_nodes.specs.Causes.{IsFaultOfPage, IsToldOfPages};
-ghost use Rattle.store_nodes.specs.Footprint.{MadeRoom};
+ghost use Rattle.store_nodes.specs.Footprint.{KeepsHoldersBut, MadeRoom};
 ghost use Rattle.store_nodes.specs.Known.{held_in};
 ghost use Rattle.store_nodes.specs.Nodes.{IsPlace, OnUp, is_up, node_at};
 ghost use Rattle.store_nodes.specs.Pages.{HasCached, KeepsWork, ShowsMap};
@@ -59,6 +59,7 @@ impl Store {
         ensures map { OnOk result (self.old.shape.maps ≤ x.0 → (image : MapImage) → ShowsMap self.old n.0 (map_of_data self.old.shape x) image → ShowsMap self.new n.0 (map_of_data self.old.shape x) image) }
         ensures cached { OnOk result (HasCached self.new n.0 x) }
         ensures made_room { OnOk result (IsTrue D.told → MadeRoom n.0 x self.old self.new (D.state disk.old).block (D.state disk.new).block) }
+        ensures owners { OnOk result (KeepsHoldersBut x self.old self.new) }
         ensures hit { HasCached self.old n.0 x → (IsOk result) × (self.new ≡ self.old) × (disk.new ≡ disk.old) × (vault.new ≡ vault.old) }
     {
         let fault = match &mut self.nodes[place(n)] {

@@ -41,7 +41,7 @@ fn fault_reply(s: &Shape, fault: DevFault) -> Reply
 impl Store {
     /// Ends the cache of a node whose port has stopped: the node is down then, its frames are free, and
     /// its pages are parked.
-    fn take_down<D: Disk>(&mut self, disk: &D, n: NodeId)
+    pub fn take_down<D: Disk>(&mut self, disk: &D, n: NodeId)
         requires node { IsPlace n.0 }
         requires stopped { (D.state disk.now).live n.0 ≡ false }
         requires is { IsStoreBut n.0 self.old }

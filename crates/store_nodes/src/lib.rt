@@ -14,6 +14,7 @@ mod fetching;
 mod flushing;
 mod halting;
 mod node;
+mod rereading;
 mod starting;
 mod store;
 mod surrendering;

@@ -1,6 +1,7 @@
 //! The three states of a node: not in use, up with its cache and transactions, or down.
 
 ghost use Rattle.std.specs.Prelude.{◌≡◌, ◌-◌, ◌<◌};
+ghost use Rattle.store_nodes.specs.Known.{is_down};
 ghost use Rattle.store_nodes.specs.Nodes.{IsPlace, any_up, is_up};
 
 use node_cache::NodeCache;
@@ -29,6 +30,13 @@ impl Node {
             Node::Up(_cache, _seats) => true,
             Node::Idle | Node::Down => false,
         }
+    }
+
+    /// Whether it has stopped, and waits to be recovered.
+    pub fn is_down(&self) -> bool
+        ensures { result ≡ is_down self.now }
+    {
+        matches!(self, Node::Down)
     }
 }
 

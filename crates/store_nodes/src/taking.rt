@@ -13,7 +13,7 @@ ghost use Rattle.record_machine.specs.Parts.{Take, one};
 ghost use Rattle.record_machine.specs.Steps.{held_page};
 ghost use Rattle.store_nodes.specs.declared.node.Node.TheVariants.{Down};
 ghost use Rattle.store_nodes.specs.Causes.{IsFaultOfTake, IsToldOfPages};
-ghost use Rattle.store_nodes.specs.Footprint.{TookPage};
+ghost use Rattle.store_nodes.specs.Footprint.{KeepsHoldersBut, TookPage};
 ghost use Rattle.store_nodes.specs.Known.{held_in};
 ghost use Rattle.store_nodes.specs.Nodes.{IsHeldBy, IsPlace, IsStore, OnUp, is_up, node_at};
 ghost use Rattle.store_nodes.specs.Pages.{HasCached, KeepsSeats, KeepsWork, ShowsMap};
@@ -86,6 +86,7 @@ impl Store {
         ensures map { OnOk result (self.old.shape.maps ≤ x.0 → (image : MapImage) → ShowsMap self.old n.0 (map_of_data self.old.shape x) image → ShowsMap self.new n.0 (map_of_data self.old.shape x) image) }
         ensures cached { OnOk result (HasCached self.new n.0 x) }
         ensures made_room { OnOk result (IsTrue D.told → TookPage n x self.old self.new (D.state disk.old).block (D.state disk.new).block) }
+        ensures owners { OnOk result (KeepsHoldersBut x self.old self.new) }
     {
         self.surrender(disk, vault, h, x)?;
         self.fetch(disk, vault, n, x, e)
@@ -127,6 +128,7 @@ impl Store {
         ensures map { OnOk result (self.old.shape.maps ≤ x.0 → (image : MapImage) → ShowsMap self.old n.0 (map_of_data self.old.shape x) image → ShowsMap self.new n.0 (map_of_data self.old.shape x) image) }
         ensures cached { OnOk result (HasCached self.new n.0 x) }
         ensures made_room { OnOk result (IsTrue D.told → TookPage n x self.old self.new (D.state disk.old).block (D.state disk.new).block) }
+        ensures owners { OnOk result (KeepsHoldersBut x self.old self.new) }
         ensures hit { HasCached self.old n.0 x → (IsOk result) × (self.new ≡ self.old) × (disk.new ≡ disk.old) × (vault.new ≡ vault.old) }
     {
         match self.holder(n, x)? {

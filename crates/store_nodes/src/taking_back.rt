@@ -22,7 +22,7 @@ use sd_base::{Disk, TxnId};
 impl Store {
     /// Takes back the newest update that is left of a transaction. Its node has its page cached, with room
     /// for one more change; else a block of the log is said to be damaged, and nothing is changed.
-    pub(crate) fn take_back_one<D: Disk, V: Disk>(
+    pub fn take_back_one<D: Disk, V: Disk>(
         &mut self,
         disk: &mut D,
         vault: &mut V,
@@ -43,6 +43,8 @@ impl Store {
         ensures down { IfErr result (λ why. says_stop why ≡ true → node_at self.new.nodes t.node.0 ≡ Down) }
         ensures kept { IfErr result (λ why. says_stop why ≡ false → self.new ≡ self.old) }
         ensures locks { OnOk result (self.new.shared.locks ≡ self.old.shared.locks) }
+        ensures reopening { OnOk result (self.new.shared.reopening ≡ self.old.shared.reopening) }
+        ensures owners { OnOk result (self.new.shared.owners ≡ self.old.shared.owners) }
         ensures busy { OnOk result (OnUp (node_at self.new.nodes t.node.0) (λ c seats. IsTrue (is_busy seats t.seat))) }
         ensures fewer { OnOk result (OnUp (node_at self.old.nodes t.node.0) (λ c old. OnUp (node_at self.new.nodes t.node.0) (λ d new. LeavesLess t.seat old new))) }
         ensures shows { OnOk result (IsTrue D.told → (m : Machine) (d : Deed) (w : Write) → newest_of m t ≡ Some d → d.write ≡ Some w → OnUp (node_at self.old.nodes t.node.0) (λ c seats. IsTrue (is_cached (record { 0 = w.page }) c))

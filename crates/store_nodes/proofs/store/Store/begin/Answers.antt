@@ -1,14 +1,11 @@
-use Rattle.std.proofs.Common.{◌≡◌, ◌-◌, ◌≤◌, ◌≢◌, ℕ, false, arith, ap, refl, subst, sym, length, length-set, slice_set, ◌∙◌}
-use Rattle.sd_base.specs.declared.shape.Shape.{Shape}
+use Rattle.std.proofs.Common.{◌≡◌, ◌-◌, false, ap, refl, subst, length, length-set, ◌∙◌}
 use Rattle.log_record.specs.declared.record.LogRecord.TheVariants.{Begin}
 use Rattle.txn_core.specs.Seats.{is_busy}
-use Rattle.record_machine.specs.Meaning.{Means, Plain, logged}
+use Rattle.record_machine.specs.Meaning.{logged}
 use Rattle.record_machine.specs.Parts.{Begin as Began, one}
 use Rattle.record_machine.proofs.Steps.{means_begun}
-use Rattle.store_nodes.specs.declared.node.Node.TheVariants.{Up}
-use Rattle.store_nodes.specs.Nodes.{IsPlace, OnUp, node_at}
-use Rattle.store_nodes.specs.Ports.{Works, Writes}
-use Rattle.store_nodes.specs.Shows.{ShowsNode, ShowsStoreOf, ShowsUp}
+use Rattle.store_nodes.specs.Nodes.{OnUp}
+use Rattle.store_nodes.specs.Shows.{ShowsNode, ShowsStoreOf}
 use Rattle.record_machine.proofs.Put.{put_other}
 use Rattle.store_nodes.proofs.Logs as logs
 use Rattle.store_nodes.proofs.ShownBegin.{up_begun}

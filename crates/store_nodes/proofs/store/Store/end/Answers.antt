@@ -1,17 +1,14 @@
-use Rattle.std.proofs.Common.{◌≡◌, ◌∷◌, [], Some, IsTrue, ◌-◌, ◌≤◌, ◌≢◌, ℕ, false, arith, ap, refl, subst, sym, length, length-set, slice_set, ◌∙◌}
-use Rattle.sd_base.specs.declared.shape.Shape.{Shape}
+use Rattle.std.proofs.Common.{◌≡◌, ◌∷◌, [], Some, IsTrue, ◌-◌, ap, refl, subst, sym, length, length-set, ◌∙◌}
 use Rattle.record_locks.specs.Held.{without_txn}
 use Rattle.txn_core.specs.Ending.{end_record}
 use Rattle.txn_core.specs.Seats.{OpenTxn, is_busy, txn_in}
 use Rattle.txn_core.proofs.SeatLaws.{ends_alone, txn_of}
-use Rattle.record_machine.specs.Meaning.{Means, Plain, logged}
+use Rattle.record_machine.specs.Meaning.{logged}
 use Rattle.record_machine.specs.Parts.{Seal, Unlock, dos, one}
 use Rattle.record_machine.proofs.SealSteps.{sealed_own}
 use Rattle.record_machine.proofs.Steps.{means_sealed, means_unlocked}
-use Rattle.store_nodes.specs.declared.node.Node.TheVariants.{Up}
-use Rattle.store_nodes.specs.Nodes.{IsPlace, OnUp, node_at}
-use Rattle.store_nodes.specs.Ports.{Works, Writes}
-use Rattle.store_nodes.specs.Shows.{ShowsNode, ShowsStoreOf, ShowsUp}
+use Rattle.store_nodes.specs.Nodes.{OnUp}
+use Rattle.store_nodes.specs.Shows.{ShowsNode, ShowsStoreOf}
 use Rattle.record_machine.proofs.Put.{put_other}
 use Rattle.store_nodes.proofs.Logs as logs
 use Rattle.store_nodes.proofs.ShownEnd.{up_ended}

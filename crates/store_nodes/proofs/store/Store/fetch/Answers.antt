@@ -1,4 +1,4 @@
-use Rattle.std.specs.Prelude.{◌≡◌, ◌<◌, ◌≤◌, ℕ, Bool, true, false, IsTrue, Some, refl, length, slice_set}
+use Rattle.std.specs.Prelude.{◌≡◌, ◌≢◌, ◌<◌, ◌≤◌, ℕ, Bool, true, false, IsTrue, Some, refl, length, slice_set}
 use Rattle.std.proofs.Common.{arith, inl, inr, ap, subst, subst₂, sym, ◌∙◌, length-set}
 use Rattle.sd_base.specs.Calls.{Keeps, Keeps-then}
 use Rattle.sd_base.specs.Disk.{IsFreeFor}
@@ -11,15 +11,17 @@ use Rattle.page_owner.specs.declared.owners.Own.TheVariants.{Out, Parked}
 use Rattle.page_owner.specs.Owners.{owner_of}
 use Rattle.space_map.specs.Image.{MapImage}
 use Rattle.private_log.specs.Reading.{contents}
-use Rattle.state_ids.specs.Blocks.{UnlessStopped, page_place}
+use Rattle.state_ids.specs.Blocks.{page_place}
 use Rattle.node_cache.specs.Cache.{is_cached}
 use Rattle.node_cache.specs.Room.{IsEntryOf, leaving}
 use Rattle.node_cache.specs.Writes.{KeepsContentsButPages}
 use Rattle.node_cache.proofs.ChangedPages.{out_of_shown}
+use Rattle.node_cache.proofs.Fetched.{CacheRoom, room_arrived, room_hit}
 use Rattle.node_cache.proofs.Leaving.{all_left}
 use Rattle.node_cache.proofs.Parking.{length-parked}
 use Rattle.record_machine.specs.Machine.{Machine, put}
 use Rattle.record_machine.specs.Parts.{Take, one}
+use Rattle.record_machine.proofs.Put.{put_other}
 use Rattle.store_nodes.specs.declared.node.Node.TheVariants.{Down, Up}
 use Rattle.store_nodes.specs.declared.store.Store.{Store}
 use Rattle.store_nodes.specs.Causes.{IsFaultOfPage, IsToldOfPages}
@@ -37,7 +39,7 @@ use Rattle.store_nodes.proofs.MapStays.{map_kept}
 use Rattle.store_nodes.proofs.Others.{KeepsHeldBy}
 use Rattle.store_nodes.proofs.PageCalls as calls
 use Rattle.store_nodes.proofs.PageReplies.{block_kept, fault_says, never, stays_unless, stop_says, stop_then, told_says, unless, unless_then}
-use Rattle.store_nodes.proofs.RoomMade.{CacheRoom, made_room, room_arrived, room_hit}
+use Rattle.store_nodes.proofs.RoomMade.{made_room}
 use Rattle.store_nodes.proofs.Shares.{store_worked}
 use Rattle.store_nodes.proofs.ShownTaken.{holder_fetched, holder_missed, settled_open, shown_taken, store_again, store_taken}
 use Rattle.store_nodes.proofs.Takes.{all_out, apart_arrived, apart_broken, but_of, frames_arrived, frames_broken, long_broken, out_at, owner_broken, owner_fetched, room_at, store_hit}
@@ -652,3 +654,29 @@ returns-clause-holders g c =
     let after = held_after me mid c.args.x n holds is.shared.holders
     (calls.up_same me n c.place.result k d seats is c.requires.node c.place.ensures.is up) (ap is_up (calls.now_at me n c.place.result k d seats is c.requires.node c.place.ensures.is up)) (open_free me c.args.x c.args.n c.requires.up c.requires.open) in
     λ live y. ap (λ v. held_in v y) (where_live (first_page s) c.in-Err.fault _ (subst (λ r. says_stop r ≡ false) c.give_up.ensures.says live) c.give_up.ensures.kept).0 ∙ after y
+
+-- the other pages are held as they were
+others_of : (g : given.Over) (c : goal.In-Ok g) → (b : Bool) → is_cached c.args.x c.in-Up.cache ≡ b → (y : PageNo) → y ≢ c.args.x → holder (owner_of (After g c).shared.owners y.0) ≡ holder (owner_of c.args.self.now.shared.owners y.0)
+others_of g c true hit y far =
+    let me = c.args.self.now in
+    let n = c.args.n.0 in
+    let is = c.requires.ready.is in
+    let done = c.fetch-done in
+    let seats = c.in-Up._seats in
+    let up = logs.up_at me n c.place.result c.index-self-place.result c.in-Up.cache seats is c.requires.node c.place.ensures.is c.in-Up.is in
+    let same = done.ensures.hit hit in
+    ap (λ v. holder (owner_of v.shared.owners y.0)) (store_again me n c.place.result c.in-Up.cache done.new.self seats done.new.pool done.new.owners is c.requires.node c.place.ensures.is up same.2 same.3 same.1)
+others_of g c false fresh y far =
+    let me = c.args.self.now in
+    let n = c.args.n.0 in
+    let is = c.requires.ready.is in
+    let k = c.in-Up.cache in
+    let seats = c.in-Up._seats in
+    let up = logs.up_at me n c.place.result c.index-self-place.result k seats is c.requires.node c.place.ensures.is c.in-Up.is in
+    let work = logs.work me n c.place.result k k seats seats is c.requires.node c.place.ensures.is up in
+    let name : k.node ≡ c.args.n = ap (λ i. record { 0 = i }) work.number in
+    holder_fetched me c.args.n c.args.x k seats c.fetch-done.new.owners (Out k.node) is c.requires.node up c.requires.page (ap (λ (i : NodeId). Some i.0) name) (c.in-Ok.ensures.owners fresh) y.0
+    ∙ put_other c.args.x.0 (Some n) (λ j. holder (owner_of me.shared.owners j)) y.0 (λ same. far (ap (λ j. record { 0 = j }) same))
+
+pub returns-in-Ok-clause-owners : goal.returns-in-Ok-clause-owners
+returns-in-Ok-clause-owners g c = others_of g c (is_cached c.args.x c.in-Up.cache) refl

@@ -1,7 +1,8 @@
 use Rattle.std.proofs.Common.{ap, ◌∙◌}
-use Rattle.store_nodes.proofs.FlushedPages.{before_contents, before_changed, before_holds, before_work, before_written, others_kept, others_narrowed, ring_to_changed}
+use Rattle.store_nodes.proofs.FlushedPages.{before_contents, before_changed, before_holds, before_written, others_kept, others_narrowed, ring_to_changed}
 use Rattle.store_nodes.proofs.Results.{ok_then, on_done}
 use Rattle.store_nodes.proofs.Sequences.{caused_then, works_then, writes_then}
+use Rattle.store_nodes.proofs.WorksWith.{work_then}
 use Rattle.store_nodes.proofs.store.Store.flush.Goals as goal
 
 pub write_back-requires-clause-quiet : goal.write_back-requires-clause-quiet
@@ -32,7 +33,7 @@ pub returns-clause-shared : goal.returns-clause-shared
 returns-clause-shared g c = on_done c.write_back.result c.write_back.ensures.shared (λ same. same ∙ c.in_ok-force.ensures.shared)
 
 pub returns-clause-kept : goal.returns-clause-kept
-returns-clause-kept g c = on_done c.write_back.result c.write_back.ensures.kept (λ kept. before_work c.args.n.0 c.args.self.now c.force.new.self c.write_back.new.self c.in_ok-force.ensures.kept kept)
+returns-clause-kept g c = on_done c.write_back.result c.write_back.ensures.kept (λ kept. work_then c.args.n.0 c.args.self.now c.force.new.self c.write_back.new.self c.in_ok-force.ensures.kept kept)
 
 pub returns-clause-written : goal.returns-clause-written
 returns-clause-written g c = ok_then c.write_back.result _ _ c.write_back.ensures.written (λ count written. before_written c.args.n.0 c.args.self.now c.force.new.self c.write_back.new.self count c.requires.up c.in_ok-force.ensures.up c.in_ok-force.ensures.pages written)

@@ -1,5 +1,4 @@
-use Rattle.std.proofs.Common.{◌≡◌, IsTrue, inl, inr, subst, subst₂, sym}
-use Rattle.sd_base.specs.declared.fault.DevFault.TheVariants.{Damaged, Lost}
+use Rattle.std.proofs.Common.{IsTrue, inl, inr, subst, subst₂, sym}
 use Rattle.state_ids.specs.Blocks.{UnlessStopped}
 use Rattle.store_nodes.specs.Ports.{IsQuiet}
 use Rattle.store_nodes.proofs.store.Store.give_up.Goals as goal

@@ -1,4 +1,4 @@
-use Rattle.std.proofs.Common.{◌≡◌, ◌≢◌, Some, None, inl, inr, ap, sym, subst₂, ◌∙◌}
+use Rattle.std.proofs.Common.{sym, subst₂, ◌∙◌}
 use Rattle.store_nodes.specs.Ports.{IsQuietOf}
 use Rattle.store_nodes.proofs.Works.{quiet_halted}
 use Rattle.store_nodes.proofs.store.Store.halt.Goals as goal

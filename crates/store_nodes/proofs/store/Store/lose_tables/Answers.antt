@@ -1,6 +1,6 @@
-use Rattle.std.proofs.Common.{rules, ◌≡◌, false, sym, ◌∙◌}
+use Rattle.std.proofs.Common.{rules, ◌≡◌, false}
 use Rattle.store_nodes.specs.Nodes.{any_up}
-use Rattle.store_nodes.proofs.Halts.{none_out, store_lost}
+use Rattle.store_nodes.proofs.Halts.{none_out}
 use Rattle.store_nodes.proofs.store.Store.lose_tables.Goals as goal
 
 pub drop_all-requires : goal.drop_all-requires

@@ -1,8 +1,7 @@
-use Rattle.std.specs.Prelude.{◌≡◌, ◌<◌, ◌≤◌, ℕ, true, OnOk}
-use Rattle.std.proofs.Common.{arith, inl, inr, ap, subst, subst₂, sym, ◌∙◌, get_or-set_same}
+use Rattle.std.specs.Prelude.{◌≡◌, ◌≤◌, ℕ, OnOk}
+use Rattle.std.proofs.Common.{arith, inl, inr, ap, subst, subst₂, sym, ◌∙◌, get_or-set_other, get_or-set_same}
 use Rattle.std.proofs.lemmas.Bool.{cases_eq}
 use Rattle.sd_base.specs.Places.{map_of_data}
-use Rattle.sd_base.specs.Shape.{page_count}
 use Rattle.page_owner.specs.declared.owners.Own.TheVariants.{Nobody}
 use Rattle.page_owner.specs.Owners.{owner_of}
 use Rattle.node_cache.specs.Room.{IsEntryOf}
@@ -11,6 +10,7 @@ use Rattle.record_machine.specs.Parts.{Drop, one}
 use Rattle.store_nodes.specs.Nodes.{IsPlace, OnUp, is_up, node_at}
 use Rattle.store_nodes.specs.Pages.{HasMap, ShowsMap}
 use Rattle.store_nodes.specs.Ports.{SaysStopOf, WorksWith}
+use Rattle.store_nodes.specs.Shows.{holder}
 use Rattle.store_nodes.proofs.Holders.{open_free}
 use Rattle.store_nodes.proofs.Passes.{held_given, map_apart, on_done, on_error, on_live, says_of, stops_up, took_page}
 use Rattle.store_nodes.proofs.ShownHeld.{dropped_taken}
@@ -100,6 +100,14 @@ returns-clause-holders g c =
       | inr far ↦ ap is_up (works.others k k_is far)
     ] in
     on_live c.fetch.result c.fetch.ensures.holders (λ same y. same y ∙ held_given me mid c.args.x (omega (arith, table, page)) c.in_ok-surrender.ensures.owners c.requires.ready.is.shared.holders ups (open_free me c.args.x h c.requires.holder_up (inr c.requires.has)) y)
+
+pub returns-clause-owners : goal.returns-clause-owners
+returns-clause-owners g c =
+    let me = c.args.self.now in
+    let x = c.args.x in
+    on_done c.fetch.result c.fetch.ensures.owners (λ same y far. same y far
+    ∙ ap (λ os. holder (owner_of os y.0)) c.in_ok-surrender.ensures.owners
+    ∙ ap holder (get_or-set_other me.shared.owners x.0 y.0 Nobody Nobody (λ is. far (ap (λ k. record { 0 = k }) is))))
 
 pub returns-clause-map : goal.returns-clause-map
 returns-clause-map g c =

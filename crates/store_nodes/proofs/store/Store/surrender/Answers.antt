@@ -3,12 +3,10 @@ use Rattle.std.specs.List.{cons_option}
 use Rattle.std.proofs.Common.{arith, inr, ap, subst, subst₂, sym, ◌∙◌, length-set}
 use Rattle.sd_base.specs.Disk.{IsFreeFor}
 use Rattle.sd_base.specs.Shape.{page_count}
-use Rattle.sd_base.specs.declared.device.NodeId.{NodeId}
 use Rattle.page_owner.specs.declared.owners.Own.TheVariants.{Nobody}
 use Rattle.page_owner.specs.Owners.{owner_of}
 use Rattle.state_ids.specs.Blocks.{page_place}
 use Rattle.node_cache.specs.Cache.{page_at}
-use Rattle.node_cache.specs.Room.{IsHeldBy}
 use Rattle.node_cache.proofs.ChangedPages.{out_of_shown}
 use Rattle.node_cache.proofs.RoomLaws.{same_content}
 use Rattle.record_machine.specs.Parts.{Drop, one}

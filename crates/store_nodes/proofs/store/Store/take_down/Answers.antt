@@ -1,7 +1,7 @@
-use Rattle.std.proofs.Common.{◌≡◌, ◌-◌, false, inl, inr, ap, sym, subst, refl, length, slice_set, ◌∙◌}
+use Rattle.std.proofs.Common.{◌≡◌, ◌-◌, false, inl, inr, ap, sym, subst, refl, slice_set, ◌∙◌}
 use Rattle.node_cache.specs.Room.{freed}
-use Rattle.store_nodes.specs.declared.node.Node.TheVariants.{Idle, Up, Down}
-use Rattle.store_nodes.specs.Nodes.{IsStoreOf, KeepsFramesBut, node_at, is_up, pages_of, with_node}
+use Rattle.store_nodes.specs.declared.node.Node.TheVariants.{Up}
+use Rattle.store_nodes.specs.Nodes.{IsStoreOf, KeepsFramesBut, node_at, is_up}
 use Rattle.store_nodes.proofs.Eight.{found_at}
 use Rattle.store_nodes.proofs.Halts.{frames_ended, given_none, none_cached, store_downed, store_ended}
 use Rattle.store_nodes.proofs.store.Store.take_down.Goals as goal
