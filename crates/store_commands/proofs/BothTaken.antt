@@ -1,5 +1,5 @@
 -- The map page of a group is taken, and then a data page: one of them may be held by a node that is down.
-use Rattle.std.specs.Prelude.{◌≡◌, ◌≢◌, ◌≤◌, ◌<◌, ◌+◌, ◌*◌, ◌∷◌, [], ℕ, zero, suc, List, Option, Some, None, Result, Ok, Err, option_map, take, refl}
+use Rattle.std.specs.Prelude.{◌≡◌, ◌≢◌, ◌<◌, ◌∷◌, [], ℕ, zero, suc, List, Option, Some, None, Result, Ok, Err, take, refl}
 use Rattle.std.proofs.Common.{arith, ap, subst, sym, ◌∙◌}
 use Rattle.sd_base.specs.declared.shape.Shape.{Shape}
 use Rattle.sd_base.specs.Places.{page_of_place}
@@ -9,7 +9,7 @@ use Rattle.record_machine.specs.Machine.{Machine}
 use Rattle.record_machine.specs.Parts.{Part, Take, dos, one}
 use Rattle.record_machine.specs.Steps.{held, held_page}
 use Rattle.store_commands.specs.Taking.{HasSome, UnlessHeld, WhereHeld}
-use Rattle.store_commands.proofs.Taken.{free_one, held_behind, held_next, held_one, is_free, is_held, more_taken, none_taken}
+use Rattle.store_commands.proofs.Taken.{free_one, held_behind, held_next, held_one, is_free, is_held, none_taken}
 
 -- ---- what follows of what was answered
 

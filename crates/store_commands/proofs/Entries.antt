@@ -1,8 +1,7 @@
 -- The entry of a data page is read of its map page, which the node has cached.
-use Rattle.std.specs.Prelude.{◌≡◌, ◌≤◌, ◌<◌, ◌+◌, ◌-◌, ◌*◌, ◌%◌, ℕ, Some, refl}
+use Rattle.std.specs.Prelude.{◌≡◌, ◌≤◌, ◌-◌, ℕ, Some}
 use Rattle.std.specs.List.{slice_get}
-use Rattle.std.proofs.Common.{arith, ap, subst, sym, ◌∙◌}
-use Rattle.sd_base.specs.Shape.{page_count, pages_per_map}
+use Rattle.std.proofs.Common.{arith, ap, sym, ◌∙◌}
 use Rattle.sd_base.specs.declared.names.PageNo.{PageNo}
 use Rattle.sd_base.specs.declared.shape.Shape.{Shape}
 use Rattle.sd_base.specs.Places.{map_of_data, page_of_place, place_of_page}

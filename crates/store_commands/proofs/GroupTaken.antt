@@ -1,5 +1,5 @@
 -- What is answered where the pages of a group are taken: the map page, and then the group's page if it has one.
-use Rattle.std.specs.Prelude.{◌≡◌, ◌≢◌, ◌∷◌, [], ℕ, false, List, Option, Some, None, Result, Ok, Err, IsOk, refl}
+use Rattle.std.specs.Prelude.{◌≡◌, ◌≢◌, ◌∷◌, [], ℕ, List, Option, Some, None, Result, Ok, Err, IsOk, refl}
 use Rattle.std.proofs.Common.{ap, subst, sym, ◌∙◌}
 use Rattle.sd_base.specs.Places.{map_of_key}
 use Rattle.script_text.specs.declared.reply.Reply.{Reply}
@@ -7,10 +7,10 @@ use Rattle.record_machine.specs.Commands.{first_of, takes_both}
 use Rattle.record_machine.specs.Machine.{Machine}
 use Rattle.record_machine.specs.Parts.{Part, Take, dos, one}
 use Rattle.record_machine.specs.Steps.{held, held_page}
-use Rattle.store_nodes.specs.Ports.{UnlessStop, says_stop}
+use Rattle.store_nodes.specs.Ports.{UnlessStop}
 use Rattle.store_commands.specs.Taking.{HasSome, UnlessHeld}
 use Rattle.store_commands.proofs.BothTaken.{err_held, second_taken}
-use Rattle.store_commands.proofs.Stopping.{done_on, unless_err, unless_failed, unless_ok}
+use Rattle.store_commands.proofs.Stopping.{unless_err, unless_failed, unless_ok}
 use Rattle.store_commands.proofs.Taken.{is_free, is_held, more_taken}
 use Rattle.store_commands.proofs.Testing.{never}
 

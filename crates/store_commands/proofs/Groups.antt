@@ -1,5 +1,5 @@
 -- The page of a key's group, looked up in its map page, is the one that the machine says the group has.
-use Rattle.std.specs.Prelude.{◌≡◌, ◌≤◌, ◌<◌, ◌∷◌, [], ℕ, true, Option, Some, None, IfNone, IfSome, option_map}
+use Rattle.std.specs.Prelude.{◌≡◌, ◌≤◌, ◌<◌, ℕ, true, Option, Some, None, IfSome, option_map}
 use Rattle.std.specs.List.{position}
 use Rattle.std.proofs.Common.{ap, inr, subst, sym, ◌∙◌}
 use Rattle.sd_base.specs.Shape.{page_count}

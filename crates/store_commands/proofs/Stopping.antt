@@ -8,7 +8,7 @@ use Rattle.record_machine.specs.Steps.{held}
 use Rattle.store_nodes.specs.Ports.{IsStopReply, UnlessStop, says_stop}
 use Rattle.store_commands.specs.Taking.{UnlessHeld}
 use Rattle.store_commands.proofs.BothTaken.{err_held, ok_taken}
-use Rattle.store_commands.proofs.Taken.{is_free, is_held}
+use Rattle.store_commands.proofs.Taken.{is_held}
 use Rattle.store_commands.proofs.Testing.{never}
 use Rattle.store_commands.proofs.Unchanged.{stops}
 

@@ -1,17 +1,12 @@
 -- Which pages a command has taken when one is held by a node that is down.
-use Rattle.std.specs.Prelude.{◌≡◌, ◌≢◌, ◌≤◌, ◌<◌, ◌∷◌, [], ℕ, zero, suc, List, Option, Some, None, Result, Err, option_map, take, refl}
-use Rattle.std.proofs.Common.{arith, ap, subst, sym, ◌∙◌}
-use Rattle.sd_base.specs.declared.names.Key.{Key}
-use Rattle.sd_base.specs.declared.names.TxnId.{TxnId}
-use Rattle.sd_base.specs.Places.{map_of_key, page_of_place}
+use Rattle.std.specs.Prelude.{◌≡◌, ◌≢◌, ◌∷◌, [], ℕ, zero, suc, List, Option, Some, None, Result, Err, take, refl}
+use Rattle.std.proofs.Common.{◌∙◌}
 use Rattle.script_text.specs.declared.reply.Reply.{Reply}
 use Rattle.script_text.specs.declared.reply.Reply.TheVariants as says
-use Rattle.record_machine.specs.Commands.{first_of, takes_both, takes_target, where_so}
-use Rattle.record_machine.specs.Machine.{Machine, home, is_down, new_home}
+use Rattle.record_machine.specs.Machine.{Machine}
 use Rattle.record_machine.specs.Parts.{Part, Take, dos, one}
 use Rattle.record_machine.specs.Steps.{held, held_page}
 use Rattle.record_machine.proofs.Put.{put_other}
-use Rattle.store_commands.specs.Answering.{new_takes}
 use Rattle.store_commands.specs.Taking.{HasSome, UnlessHeld, WhereHeld}
 
 -- a page that is taken changes nothing of who holds another

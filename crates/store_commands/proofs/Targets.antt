@@ -1,5 +1,5 @@
 -- The pages that a write takes: those of the key's group, or the map page and then the first free page.
-use Rattle.std.specs.Prelude.{◌≡◌, ◌≢◌, ◌∷◌, [], ℕ, true, false, List, Option, Some, None, Result, Ok, Err, IsOk, option_map, refl}
+use Rattle.std.specs.Prelude.{◌≡◌, ◌≢◌, ◌∷◌, [], ℕ, false, Option, Some, None, Result, Ok, Err, IsOk, option_map, refl}
 use Rattle.std.proofs.Common.{ap, subst, sym, ◌∙◌}
 use Rattle.sd_base.specs.Shape.{IsShape}
 use Rattle.sd_base.specs.declared.names.Key.{Key}

@@ -1,11 +1,11 @@
 -- Tests that a command has to pass, and what follows of what a call answered.
-use Rattle.std.specs.Prelude.{◌≡◌, ◌∷◌, [], Bool, true, false, List, Option, Some, None, Result, Ok, Err, IfErr, IsOk, OnOk, refl}
+use Rattle.std.specs.Prelude.{◌≡◌, ◌∷◌, List, Option, Some, None, Result, Ok, Err, IfErr, IsOk, OnOk, refl}
 use Rattle.std.specs.Result.{IsErrAnd}
 use Rattle.std.proofs.Common.{ap, sym, ◌∙◌}
 use Rattle.script_text.specs.declared.reply.Reply.{Reply}
 use Rattle.record_machine.specs.Commands.{first_of}
 use Rattle.store_nodes.specs.Known.{checked}
-use Rattle.store_commands.specs.Answering.{Answers, reply_of}
+use Rattle.store_commands.specs.Answering.{Answers}
 
 -- no test fails
 pub passed : (o : Option Reply) → checked o ≡ Ok tt → o ≡ None

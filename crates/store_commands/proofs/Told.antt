@@ -1,5 +1,5 @@
 -- What is told of the blocks of pages where a write isn't done.
-use Rattle.std.specs.Prelude.{◌≡◌, ◌^◌, ◌≤◌, ◌+◌, ℕ, Bool, true, false, nat_le, List, Option, Some, None, Ok, Err, if◌then◌else◌, refl}
+use Rattle.std.specs.Prelude.{◌≡◌, ◌^◌, ◌≤◌, ◌+◌, ℕ, Bool, true, false, nat_le, List, Option, Some, None, Err, if◌then◌else◌, refl}
 use Rattle.std.specs.List.{position}
 use Rattle.std.proofs.Common.{arith, ap, subst, ◌∙◌}
 use Rattle.sd_base.specs.declared.names.Key.{Key}

@@ -1,10 +1,7 @@
 -- What two calls leave, one behind the other, in which other nodes may have had to give up pages.
-use Rattle.std.specs.Prelude.{◌≡◌, ◌≢◌, ◌⊎◌, ◌<◌, ℕ, Bool, true, false, not, List, Option, Some, Result, Ok, Err, refl}
+use Rattle.std.specs.Prelude.{◌≡◌, ◌≢◌, ◌<◌, ℕ, Bool, true, false, not, Some, Result, Ok, Err}
 use Rattle.std.proofs.Common.{inl, inr, ap, subst, sym, ◌∙◌}
-use Rattle.std.proofs.lemmas.Bool.{cases_eq}
-use Rattle.sd_base.specs.Calls.{Keeps}
 use Rattle.sd_base.specs.Disk.{BlockState, DiskState}
-use Rattle.sd_base.specs.Faults.{Grew-keeps, Grew-then}
 use Rattle.sd_base.specs.Shape.{page_count}
 use Rattle.sd_base.specs.declared.device.NodeId.{NodeId}
 use Rattle.sd_base.specs.declared.names.Key.{Key}
@@ -22,101 +19,18 @@ use Rattle.txn_core.specs.declared.change.Change.{Change}
 use Rattle.store_nodes.specs.declared.node.Node.{Node}
 use Rattle.store_nodes.specs.declared.node.Node.TheVariants.{Idle, Up, Down}
 use Rattle.store_nodes.specs.declared.store.Store.{Store}
-use Rattle.store_nodes.specs.Nodes.{IsPlace, IsStore, OnUp, is_up, node_at}
-use Rattle.store_nodes.specs.Pages.{KeepsSeats, KeepsWork}
-use Rattle.store_nodes.specs.Ports.{IsStopReply, IsWorker, KeepsPorts, SaysStopOf, StaysOrStops, Works, WorksWith, Writes, WritesWith}
+use Rattle.store_nodes.specs.Nodes.{IsStore, is_up, node_at}
+use Rattle.store_nodes.specs.Ports.{IsStopReply, IsWorker, SaysStopOf, StaysOrStops, WorksWith, WritesWith}
 use Rattle.store_nodes.specs.Causes.{IsFaultOfTake, IsTaker}
 use Rattle.store_nodes.specs.Known.{held_by, held_in}
 use Rattle.store_commands.specs.Faults.{IsFaultFor, IsWriteReason}
 use Rattle.store_commands.specs.Reasons.{IsPageFor}
 use Rattle.store_commands.proofs.ShownLocks.{with_locks}
-
--- ---- a call of the node alone is one in which no other works
-
-ports_alone : (n : ℕ) (nodes : List Node) (a b : DiskState) → Keeps n a b → KeepsPorts n nodes a b
-ports_alone n nodes a b keeps = record {
-  name = keeps.name;
-  size = keeps.size;
-  reach = keeps.reach;
-  below = keeps.below;
-  orders = keeps.orders;
-  live = λ m far. keeps.live m (λ same. far (inl same));
-  faults = λ m far. keeps.other_faults m (λ same. far (inl same));
-  cuts = λ m far. keeps.other_cuts m (λ same. far (inl same));
-  grew = Grew-keeps n a b keeps;
-}
-
-stays : (Said : Type 0) (old new : Node) → new ≡ old → StaysOrStops Said old new
-stays Said Idle new same = same
-stays Said (Up c seats) new same = subst (StaysOrStops Said (Up c seats)) (sym same) (inl (refl, refl))
-stays Said Down new same = same
-
-pub works_alone : (n : ℕ) (Said : ℕ → Type 0) (old new : Store) (disk disk' vault vault' : DiskState) → Works n old new disk disk' vault vault' → WorksWith n Said old new disk disk' vault vault'
-works_alone n Said old new disk disk' vault vault' works = record {
-  ready = works.ready;
-  shape = works.shape;
-  keeps = ports_alone n old.nodes disk disk' works.keeps;
-  vault_keeps = ports_alone n old.nodes vault vault' works.vault_keeps;
-  others = λ m place far. stays (Said m) (node_at old.nodes m) (node_at new.nodes m) (works.others m place far);
-}
-
-pub writes_alone : (n : ℕ) (old new : Store) (b b' : ℕ → BlockState) → Writes n old new b b' → WritesWith n old new b b'
-writes_alone n old new b b' writes = record { quiet = writes.quiet; besides = λ k o page ring may. writes.besides k o page (λ number. ring n number (inl refl)) may }
-
--- ---- one call behind another
+-- a call of the node alone is one in which no other works, and two calls are one
+pub use Rattle.store_nodes.proofs.WorksWith.{work_then, works_with as works_alone, works_with_then as works_then, worker_earlier as worker_before, writes_with as writes_alone}
 
 abbrev pub NoStop : ℕ → Type 0
 NoStop m = ⊥
-
--- what is up was up
-up_before : (Said : Type 0) (old new : Node) → StaysOrStops Said old new → is_up new ≡ true → is_up old ≡ true
-up_before Said Idle new same up = ap is_up (sym same) ∙ up
-up_before Said (Up c seats) new same up = refl
-up_before Said Down new same up = ap is_up (sym same) ∙ up
-
-module _ (n : ℕ) (Said : ℕ → Type 0) (old mid : Store) (disk disk' vault vault' : DiskState) (first : WorksWith n Said old mid disk disk' vault vault') where
-  -- a node that works in the second call could work in the first
-  pub worker_before : (m : ℕ) → IsWorker n mid.nodes m → IsWorker n old.nodes m
-  worker_before m (inl same) = inl same
-  worker_before m (inr up) = elim (cases_eq m n) [
-    | inl same ↦ inl same
-    | inr far ↦ inr (up.0, up_before (Said m) (node_at old.nodes m) (node_at mid.nodes m) (first.others m up.0 far) up.1)
-  ]
-
-ports_then : (n : ℕ) (old mid : List Node) (a b c : DiskState) → ((m : ℕ) → IsWorker n mid m → IsWorker n old m) → KeepsPorts n old a b → KeepsPorts n mid b c → KeepsPorts n old a c
-ports_then n old mid a b c before first next = record {
-  name = next.name ∙ first.name;
-  size = next.size ∙ first.size;
-  reach = next.reach ∙ first.reach;
-  below = next.below ∙ first.below;
-  orders = next.orders ∙ first.orders;
-  live = λ m far. next.live m (λ works. far (before m works)) ∙ first.live m far;
-  faults = λ m far. next.faults m (λ works. far (before m works)) ∙ first.faults m far;
-  cuts = λ m far. next.cuts m (λ works. far (before m works)) ∙ first.cuts m far;
-  grew = Grew-then a b c first.grew next.grew;
-}
-
-stays_then : (Said : Type 0) (old mid new : Node) → StaysOrStops ⊥ old mid → StaysOrStops Said mid new → StaysOrStops Said old new
-stays_then Said Idle mid new first next = subst (λ k. StaysOrStops Said k new) first next
-stays_then Said Down mid new first next = subst (λ k. StaysOrStops Said k new) first next
-stays_then Said (Up c before) mid new (inr stopped) next = absurd stopped.0
-stays_then Said (Up c before) mid new (inl kept) next = by mid kept next
-  where
-    by : (mid : Node) → KeepsSeats (Up c before) mid → StaysOrStops Said mid new → StaysOrStops Said (Up c before) new
-    by Idle kept next = let never : false ≡ true = kept.0 in cc
-    by Down kept next = let never : false ≡ true = kept.0 in cc
-    by (Up d after) kept (inr stopped) = inr stopped
-    by (Up d after) kept (inl still) = inl (still.0, subst (λ s. OnUp new (λ e later. later ≡ s)) kept.1 still.1)
-
-pub works_then : (n : ℕ) (Said : ℕ → Type 0) (old mid new : Store) (disk disk' disk'' vault vault' vault'' : DiskState) → WorksWith n NoStop old mid disk disk' vault vault' → WorksWith n Said mid new disk' disk'' vault' vault'' → WorksWith n Said old new disk disk'' vault vault''
-works_then n Said old mid new disk disk' disk'' vault vault' vault'' first next =
-    let before = worker_before n NoStop old mid disk disk' vault vault' first in record {
-      ready = next.ready;
-      shape = next.shape ∙ first.shape;
-      keeps = ports_then n old.nodes mid.nodes disk disk' disk'' before first.keeps next.keeps;
-      vault_keeps = ports_then n old.nodes mid.nodes vault vault' vault'' before first.vault_keeps next.vault_keeps;
-      others = λ m place far. stays_then (Said m) (node_at old.nodes m) (node_at mid.nodes m) (node_at new.nodes m) (first.others m place far) (next.others m place far);
-    }
 
 pub writes_then : (n : ℕ) (old mid new : Store) (a b c : ℕ → BlockState) → ((m : ℕ) → IsWorker n mid.nodes m → IsWorker n old.nodes m) → mid.shape ≡ old.shape → WritesWith n old mid a b → WritesWith n mid new b c → WritesWith n old new a c
 writes_then n old mid new a b c before shape first next = record {
@@ -154,12 +68,12 @@ says_none (Err why) value is m Said = cc
 -- ---- a page that couldn't be taken
 
 -- a node that has a hand in it works in the call
-worker : (c : Store) (n : ℕ) (x : PageNo) (m : NodeId) → IsStore c → IsTaker c n x m → IsWorker n c.nodes m.0
+pub worker : (c : Store) (n : ℕ) (x : PageNo) (m : NodeId) → IsStore c → IsTaker c n x m → IsWorker n c.nodes m.0
 worker c n x m is (inl same) = inl same
 worker c n x m is (inr has) = inr (is.shared.holders x.0 m has.0, has.1)
 
 -- a page that is held is the one that was to be taken
-held_page_is : (c : Store) (x y : PageNo) (h : NodeId) → held_in c x ≡ Some (says.Held y h) → x ≡ y
+pub held_page_is : (c : Store) (x y : PageNo) (h : NodeId) → held_in c x ≡ Some (says.Held y h) → x ≡ y
 held_page_is c x y h is = by (owner_of c.shared.owners x.0) is
   where
     test : (b : Bool) (k : NodeId) → where_so b (says.Held x k) ≡ Some (says.Held y h) → x ≡ y
@@ -185,21 +99,6 @@ pub stop_for : (old : Store) (n : ℕ) (key : Key) (why : Reply) → IsStopReply
 stop_for old n key (says.Stopped m) is = inl is
 stop_for old n key (says.Fault m) is = inl is
 stop_for old n key why is = absurd is
-
--- the work of a node is kept by two calls, where each keeps it
-pub work_then : (n : ℕ) (old mid new : Store) → KeepsWork n old mid → KeepsWork n mid new → KeepsWork n old new
-work_then n old mid new first next = record {
-  locks = next.locks ∙ first.locks;
-  reopening = next.reopening ∙ first.reopening;
-  seats = seats_then (node_at old.nodes n) (node_at mid.nodes n) (node_at new.nodes n) first.seats next.seats;
-}
-  where
-    seats_then : (a b c : Node) → KeepsSeats a b → KeepsSeats b c → KeepsSeats a c
-    seats_then Idle b c first next = subst (λ k. KeepsSeats k c) first next
-    seats_then Down b c first next = subst (λ k. KeepsSeats k c) first next
-    seats_then (Up d before) Idle c first next = let never : false ≡ true = first.0 in cc
-    seats_then (Up d before) Down c first next = let never : false ≡ true = first.0 in cc
-    seats_then (Up d before) (Up e after) c first next = (next.0, subst (λ s. OnUp c (λ k later. later ≡ s)) first.1 next.1)
 
 -- ---- a lock more changes nothing of this
 

@@ -1,7 +1,7 @@
 -- What a write is refused for by what the node has cached, the machine refuses it for too.
-use Rattle.std.specs.Prelude.{◌≡◌, ◌≤◌, ◌<◌, ◌*◌, ◌+◌, ◌^◌, ◌∷◌, [], ℕ, Bool, true, false, nat_le, nat_lt, List, Option, Some, None, Ok, Err, IsTrue, option_map, refl, if◌then◌else◌}
+use Rattle.std.specs.Prelude.{◌≡◌, ◌≤◌, ◌<◌, ◌*◌, ◌+◌, ◌^◌, ◌∷◌, [], ℕ, Bool, true, false, nat_le, nat_lt, Option, Some, None, Ok, Err, IsTrue, option_map, refl, if◌then◌else◌}
 use Rattle.std.specs.List.{position}
-use Rattle.std.proofs.Common.{arith, ap, sym, ◌∙◌}
+use Rattle.std.proofs.Common.{ap, sym, ◌∙◌}
 use Rattle.sd_base.specs.Disk.{BlockState}
 use Rattle.sd_base.specs.Shape.{page_count}
 use Rattle.sd_base.specs.declared.device.NodeId.{NodeId}

@@ -4,3 +4,5 @@ pub mod AtHand
 pub mod Taking
 pub mod Reasons
 pub mod Faults
+pub mod Aborts
+pub mod Dumps

@@ -13,11 +13,11 @@ ghost use Rattle.txn_core.specs.declared.change.Change.TheVariants.{Delete};
 ghost use Rattle.store_nodes.specs.declared.node.Node.TheVariants.{Down};
 ghost use Rattle.store_nodes.specs.Causes.{IsToldOfPages};
 ghost use Rattle.store_nodes.specs.Nodes.{IsPlace, is_up, node_at};
-ghost use Rattle.store_nodes.specs.Pages.{has_txn};
-ghost use Rattle.store_nodes.specs.Ports.{HasCause, IsQuiet, IsReady, IsStopReply, SaysStopOf, UnlessStop, WorksWith, WritesWith};
+ghost use Rattle.store_nodes.specs.Pages.{KeepsWork, has_txn};
+ghost use Rattle.store_nodes.specs.Ports.{HasCause, IsQuiet, IsReady, IsStopReply, SaysStopOf, UnlessStop, WorksWith, WritesWith, says_stop};
 ghost use Rattle.store_nodes.specs.Shows.{IsShown};
 ghost use Rattle.store_commands.specs.Answering.{AnswersWith};
-ghost use Rattle.store_commands.specs.AtHand.{HasBoth, IsAtHandToDelete};
+ghost use Rattle.store_commands.specs.AtHand.{HasBoth, IsAtHandToDelete, MakesRoomWith};
 ghost use Rattle.store_commands.specs.Faults.{IsWriteReason};
 ghost use Rattle.store_commands.specs.Reasons.{IsFoundIn};
 ghost use Rattle.store_commands.specs.Taking.{UnlessHeld};
@@ -56,10 +56,12 @@ pub fn delete<D: Disk, V: Disk>(
     ensures told { IsTrue D.told → IfErr result (IsToldOfPages store.old.shape (contents (D.state disk.new).block)) }
     ensures down { IfErr result (λ why. (h : ℕ) → IsStopReply h why → node_at store.new.nodes h ≡ Down) }
     ensures up { OnOk result (is_up (node_at store.new.nodes t.node.0) ≡ true) }
+    ensures kept { IfErr result (λ why. says_stop why ≡ false → KeepsWork t.node.0 store.old store.new) }
     ensures step { IsTrue D.told → (m : Machine) → IsShown store.old (D.state disk.old).block m
         → UnlessStop result (UnlessHeld m (takes m (asks.Del t key)) result (IsShown store.new (D.state disk.new).block)
         (AnswersWith (is_some (seen m t key.0)) (no_deletion m t key.0) result (IsShown store.new (D.state disk.new).block (dos (parts m (asks.Del t key)) m)) (IsShown store.new (D.state disk.new).block (dos (takes m (asks.Del t key)) m)))) }
     ensures taken { OnOk result (IsTrue D.told → (m : Machine) → IsShown store.old (D.state disk.old).block m → HasBoth store.new t.node.0 m key.0 (home m key.0)) }
+    ensures made_room { OnOk result (IsTrue D.told → MakesRoomWith t.node key store.old store.new (D.state disk.old).block (D.state disk.new).block) }
     ensures memory { IsAtHandToDelete store.old t.node.0 key.0 → (disk.new ≡ disk.old) × (vault.new ≡ vault.old) }
 {
     let home = take_group(store, disk, vault, t.node, key)?;

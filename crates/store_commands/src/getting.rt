@@ -1,6 +1,6 @@
 //! The command `get`: the record of a key as a transaction sees it.
 
-ghost use Rattle.std.specs.Prelude.{◌≡◌, ◌≤◌, true, ℕ, None, IsTrue, IsOk, IfErr, IfNone, IfOk, IfSome, OnOk};
+ghost use Rattle.std.specs.Prelude.{◌≡◌, ◌≤◌, true, false, ℕ, None, IsTrue, IsOk, IfErr, IfNone, IfOk, IfSome, OnOk};
 ghost use Rattle.sd_base.specs.Calls.{Narrows};
 ghost use Rattle.sd_base.specs.Places.{slot_of_key};
 ghost use Rattle.page_image.specs.declared.page_view.PageView.{PageView};
@@ -15,11 +15,11 @@ ghost use Rattle.record_machine.specs.Parts.{dos};
 ghost use Rattle.store_nodes.specs.declared.node.Node.TheVariants.{Down};
 ghost use Rattle.store_nodes.specs.Causes.{IsToldOfPages};
 ghost use Rattle.store_nodes.specs.Nodes.{IsPlace, IsStore, is_up, node_at};
-ghost use Rattle.store_nodes.specs.Pages.{HasCached, ShowsData};
-ghost use Rattle.store_nodes.specs.Ports.{HasCause, IsQuiet, IsReady, IsStopReply, SaysStopOf, UnlessStop, WorksWith, WritesWith};
+ghost use Rattle.store_nodes.specs.Pages.{HasCached, KeepsWork, ShowsData};
+ghost use Rattle.store_nodes.specs.Ports.{HasCause, IsQuiet, IsReady, IsStopReply, SaysStopOf, UnlessStop, WorksWith, WritesWith, says_stop};
 ghost use Rattle.store_nodes.specs.Shows.{IsShown};
 ghost use Rattle.store_commands.specs.Answering.{reply_found};
-ghost use Rattle.store_commands.specs.AtHand.{HasBoth};
+ghost use Rattle.store_commands.specs.AtHand.{HasBoth, MakesRoomWith};
 ghost use Rattle.store_commands.specs.Faults.{IsFaultFor};
 ghost use Rattle.store_commands.specs.Reasons.{IsFoundIn};
 ghost use Rattle.store_commands.specs.Taking.{UnlessHeld};
@@ -71,9 +71,11 @@ pub fn get<D: Disk, V: Disk>(
     ensures down { IfErr result (λ why. (h : ℕ) → IsStopReply h why → node_at store.new.nodes h ≡ Down) }
     ensures up { OnOk result (is_up (node_at store.new.nodes t.node.0) ≡ true) }
     ensures answer { OnOk result (IsTrue D.told → (m : Machine) → IsShown store.old (D.state disk.old).block m → MayAnswer m (asks.Get t key) (reply_found result)) }
+    ensures kept { IfErr result (λ why. says_stop why ≡ false → KeepsWork t.node.0 store.old store.new) }
     ensures step { IsTrue D.told → (m : Machine) → IsShown store.old (D.state disk.old).block m
         → UnlessStop result (UnlessHeld m (takes m (asks.Get t key)) result (IsShown store.new (D.state disk.new).block) ((IsOk result) × IsShown store.new (D.state disk.new).block (dos (parts m (asks.Get t key)) m))) }
     ensures taken { OnOk result (IsTrue D.told → (m : Machine) → IsShown store.old (D.state disk.old).block m → HasBoth store.new t.node.0 m key.0 (home m key.0)) }
+    ensures made_room { OnOk result (IsTrue D.told → MakesRoomWith t.node key store.old store.new (D.state disk.old).block (D.state disk.new).block) }
 {
     let home = take_group(store, disk, vault, t.node, key)?;
     let value = record_in(store, t.node, home, key);

@@ -13,12 +13,13 @@ ghost use Rattle.record_machine.specs.Machine.{Machine, home};
 ghost use Rattle.record_machine.specs.Parts.{Take, dos, one};
 ghost use Rattle.store_nodes.specs.declared.node.Node.TheVariants.{Down};
 ghost use Rattle.store_nodes.specs.Causes.{IsFaultOfTake, IsToldOfPages};
+ghost use Rattle.store_nodes.specs.Footprint.{KeepsHoldersBut, TookPage};
 ghost use Rattle.store_nodes.specs.Nodes.{IsPlace, is_up, node_at};
 ghost use Rattle.store_nodes.specs.Pages.{HasCached, KeepsWork, ShowsMap};
 ghost use Rattle.store_nodes.specs.Ports.{HasCause, IsQuiet, IsReady, IsStopReply, SaysStopOf, UnlessStop, WorksWith, WritesWith};
 ghost use Rattle.store_nodes.specs.Shows.{IsShown};
 ghost use Rattle.store_nodes.specs.Known.{held_in};
-ghost use Rattle.store_commands.specs.AtHand.{HasPlace};
+ghost use Rattle.store_commands.specs.AtHand.{HasPlace, MakesRoomWith};
 ghost use Rattle.store_commands.specs.Faults.{IsFaultFor};
 ghost use Rattle.store_commands.specs.Reasons.{HasNoPage, IsPageFor};
 ghost use Rattle.store_commands.specs.Taking.{UnlessHeld};
@@ -59,6 +60,7 @@ pub(crate) fn take_data<D: Disk, V: Disk>(
     ensures map_cached { OnOk result (HasCached store.new n.0 map) }
     ensures step { IsTrue D.told → (m : Machine) → IsShown store.old (D.state disk.old).block m
         → UnlessStop result (UnlessHeld m (Take (page_of_place store.old.shape map.0 place) n.0 ∷ []) result (IsShown store.new (D.state disk.new).block) ((IsOk result) × IsShown store.new (D.state disk.new).block (one (Take (page_of_place store.old.shape map.0 place) n.0) m))) }
+    ensures made_room { IfOk result (λ x. IsTrue D.told → TookPage n x store.old store.new (D.state disk.old).block (D.state disk.new).block) }
     ensures hit { HasPlace store.old n.0 map.0 place → (IsOk result) × (store.new ≡ store.old) × (disk.new ≡ disk.old) × (vault.new ≡ vault.old) }
 {
     let x = store.shape.data_page(map, place);
@@ -98,6 +100,9 @@ pub fn take_group<D: Disk, V: Disk>(
     ensures found { IfOk result (λ found. IsTrue D.told → (m : Machine) → IsShown store.old (D.state disk.old).block m → option_map (λ x. x.0) found ≡ home m key.0) }
     ensures step { IsTrue D.told → (m : Machine) → IsShown store.old (D.state disk.old).block m
         → UnlessStop result (UnlessHeld m (takes_both m n.0 key.0 (home m key.0)) result (IsShown store.new (D.state disk.new).block) ((IsOk result) × IsShown store.new (D.state disk.new).block (dos (takes_both m n.0 key.0 (home m key.0)) m))) }
+    ensures made_room { OnOk result (IsTrue D.told → MakesRoomWith n key store.old store.new (D.state disk.old).block (D.state disk.new).block) }
+    ensures took { IfOk result (λ found. IfNone found (IsTrue D.told → TookPage n (record { 0 = map_of_key store.old.shape key.0 }) store.old store.new (D.state disk.old).block (D.state disk.new).block)) }
+    ensures owners { IfOk result (λ found. IfNone found (KeepsHoldersBut (record { 0 = map_of_key store.old.shape key.0 }) store.old store.new)) }
     ensures hit { (image : MapImage) → ShowsMap store.old n.0 (record { 0 = map_of_key store.old.shape key.0 }) image → IfSome (position (is_used_by (group_of key.0)) image.entries) (HasPlace store.old n.0 (map_of_key store.old.shape key.0))
         → (IsOk result) × (store.new ≡ store.old) × (disk.new ≡ disk.old) × (vault.new ≡ vault.old) }
 {

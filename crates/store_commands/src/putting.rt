@@ -4,7 +4,7 @@ ghost use Rattle.std.specs.Prelude.{◌≡◌, ◌⊎◌, ◌≤◌, ◌<◌, �
 ghost use Rattle.std.specs.List.{position};
 ghost use Rattle.sd_base.specs.Calls.{Narrows};
 ghost use Rattle.sd_base.specs.Shape.{page_count};
-ghost use Rattle.sd_base.specs.Places.{map_of_key, slot_of_key};
+ghost use Rattle.sd_base.specs.Places.{map_of_data, map_of_key, slot_of_key};
 ghost use Rattle.page_image.specs.declared.page_view.PageView.{PageView};
 ghost use Rattle.space_map.specs.Entry.{is_free};
 ghost use Rattle.space_map.specs.Image.{MapImage};
@@ -20,14 +20,14 @@ ghost use Rattle.record_machine.specs.Machine.{Machine, home, new_home, seen};
 ghost use Rattle.record_machine.specs.Parts.{Change as Changed, Lock, dos};
 ghost use Rattle.store_nodes.specs.declared.node.Node.TheVariants.{Down};
 ghost use Rattle.store_nodes.specs.Causes.{IsToldOfPages};
-ghost use Rattle.store_nodes.specs.Footprint.{FillsNoBlock, KeepsCache};
+ghost use Rattle.store_nodes.specs.Footprint.{FillsNoBlock, KeepsCache, TookPage};
 ghost use Rattle.store_nodes.specs.Known.{checked, no_room};
 ghost use Rattle.store_nodes.specs.Nodes.{IsPlace, IsStore, is_up, node_at};
-ghost use Rattle.store_nodes.specs.Pages.{HasCached, ShowsData, ShowsMap, has_txn, room_in, value_after};
+ghost use Rattle.store_nodes.specs.Pages.{HasCached, KeepsWork, ShowsData, ShowsMap, has_txn, room_in, value_after};
 ghost use Rattle.store_nodes.specs.Ports.{HasCause, IsQuiet, IsReady, IsStopReply, SaysStopOf, UnlessStop, Works, WorksWith, Writes, WritesWith, says_stop};
 ghost use Rattle.store_nodes.specs.Shows.{IsShown};
 ghost use Rattle.store_commands.specs.Answering.{Answers, new_parts, new_takes, reply_of};
-ghost use Rattle.store_commands.specs.AtHand.{CanWriteAt, HasBoth, IsAtHand};
+ghost use Rattle.store_commands.specs.AtHand.{CanWriteAt, HasBoth, IsAtHand, MakesRoomWith};
 ghost use Rattle.store_commands.specs.Changing.{Suits, length_refusal, new_place};
 ghost use Rattle.store_commands.specs.Faults.{IsWriteReason};
 ghost use Rattle.store_commands.specs.Reasons.{HasNoPage, IsPageFor, IsWriteRefusal};
@@ -264,10 +264,12 @@ fn write_anew<D: Disk, V: Disk>(
     ensures told { IsTrue D.told → HasNoPage store.old t.node.0 key → IfErr result (IsToldOfPages store.old.shape (contents (D.state disk.new).block)) }
     ensures down { IfErr result (λ why. (h : ℕ) → IsStopReply h why → node_at store.new.nodes h ≡ Down) }
     ensures up { OnOk result (is_up (node_at store.new.nodes t.node.0) ≡ true) }
+    ensures kept { IfErr result (λ why. says_stop why ≡ false → KeepsWork t.node.0 store.old store.new) }
     ensures step { IsTrue D.told → (m : Machine) → home m key.0 ≡ None → IsShown store.old (D.state disk.old).block m
         → UnlessStop result (UnlessHeld m (new_takes t.node.0 (new_home m key.0)) result (IsShown store.new (D.state disk.new).block)
         (Answers (no_page m t.node key.0 (length_refusal what.now (seen m t key.0))) result (IsShown store.new (D.state disk.new).block (dos (new_parts m t key (value_after what.now (seen m t key.0))) m)) (IsShown store.new (D.state disk.new).block (dos (new_takes t.node.0 (new_home m key.0)) m)))) }
     ensures taken { OnOk result (IsTrue D.told → (m : Machine) → home m key.0 ≡ None → IsShown store.old (D.state disk.old).block m → HasBoth store.new t.node.0 m key.0 (new_home m key.0)) }
+    ensures made_room { OnOk result (IsTrue D.told → (x : PageNo) × (store.old.shape.maps ≤ x.0) × (map_of_data store.old.shape x ≡ record { 0 = map_of_key store.old.shape key.0 }) × IsPageFor store.old.shape key x × TookPage t.node x store.old store.new (D.state disk.old).block (D.state disk.new).block) }
     ensures memory { (image : MapImage) → ShowsMap store.old t.node.0 (record { 0 = map_of_key store.old.shape key.0 }) image → IfSome (position is_free image.entries) (CanWriteAt store.old t.node.0 (map_of_key store.old.shape key.0) 2)
         → (disk.new ≡ disk.old) × (vault.new ≡ vault.old) }
 {
@@ -304,10 +306,12 @@ pub fn write_record<D: Disk, V: Disk>(
     ensures told { IsTrue D.told → IfErr result (IsToldOfPages store.old.shape (contents (D.state disk.new).block)) }
     ensures down { IfErr result (λ why. (h : ℕ) → IsStopReply h why → node_at store.new.nodes h ≡ Down) }
     ensures up { OnOk result (is_up (node_at store.new.nodes t.node.0) ≡ true) }
+    ensures kept { IfErr result (λ why. says_stop why ≡ false → KeepsWork t.node.0 store.old store.new) }
     ensures step { IsTrue D.told → (m : Machine) → IsShown store.old (D.state disk.old).block m
         → UnlessStop result (UnlessHeld m (takes_target m t key) result (IsShown store.new (D.state disk.new).block)
         (Answers (no_page m t.node key.0 (length_refusal what.now (seen m t key.0))) result (IsShown store.new (D.state disk.new).block (dos (to_write m t key (value_after what.now (seen m t key.0))) m)) (IsShown store.new (D.state disk.new).block (dos (takes_target m t key) m)))) }
     ensures taken { OnOk result (IsTrue D.told → (m : Machine) → IsShown store.old (D.state disk.old).block m → HasBoth store.new t.node.0 m key.0 (target m key.0)) }
+    ensures made_room { OnOk result (IsTrue D.told → MakesRoomWith t.node key store.old store.new (D.state disk.old).block (D.state disk.new).block) }
     ensures memory { IsAtHand store.old t.node.0 key.0 → (disk.new ≡ disk.old) × (vault.new ≡ vault.old) }
 {
     match take_group(store, disk, vault, t.node, key)? {

@@ -1,21 +1,22 @@
-use Rattle.std.specs.Prelude.{◌≡◌, ◌⊎◌, ◌++◌, ◌∷◌, [], true, false, Some, None, Ok, Err, IfNone, IfSome, IsTrue, is_some, option_map, refl}
-use Rattle.std.proofs.Common.{ap, inl, inr, subst, sym, ◌∙◌}
+use Rattle.std.specs.Prelude.{◌≡◌, ◌++◌, ◌∷◌, [], true, false, Some, None, Ok, Err, IfNone, IsTrue, is_some, option_map}
+use Rattle.std.proofs.Common.{ap, subst, sym, ◌∙◌}
 use Rattle.record_locks.specs.declared.mode.Mode.TheVariants as locks
 use Rattle.record_locks.specs.Answer.{lock_answer, may_take}
 use Rattle.script_text.specs.declared.command.Command.TheVariants as asks
 use Rattle.record_machine.specs.Commands.{no_deletion, parts, takes, takes_both}
 use Rattle.record_machine.specs.Machine.{Machine, home, seen}
 use Rattle.record_machine.specs.Parts.{Lock, dos}
+use Rattle.store_nodes.specs.Pages.{KeepsWork}
 use Rattle.store_nodes.specs.Ports.{SaysStopOf, says_stop}
 use Rattle.store_nodes.specs.Shows.{IsShown}
 use Rattle.store_commands.specs.Answering.{AnswersWith, reply_of}
 use Rattle.store_commands.proofs.Deletions.{answers_err, answers_ok, deletes_none, deletes_there}
+use Rattle.store_commands.proofs.RoomMade.{room_then}
 use Rattle.store_commands.proofs.ShownLocks.{locks_behind, still_within, taken_read, takes_home, with_locks}
 use Rattle.store_commands.proofs.Stopping.{done_on, stop_on, unless_failed, unless_ok}
 use Rattle.store_commands.proofs.Taken.{is_free}
-use Rattle.store_commands.proofs.Testing.{the_error}
-use Rattle.store_commands.proofs.Told.{busy_kept}
-use Rattle.store_commands.proofs.With.{NoStop, says_none, says_on, worker_before, works_alone, works_locked, works_said, works_then, writes_alone, writes_locked, writes_then}
+use Rattle.store_commands.proofs.Testing.{passed_on, the_error}
+use Rattle.store_commands.proofs.With.{NoStop, says_none, worker_before, works_alone, works_locked, works_said, works_then, writes_alone, writes_locked, writes_then}
 use Rattle.store_commands.proofs.WriteParts.{once_taken}
 use Rattle.store_commands.proofs.deleting.delete.Goals as goal
 use Rattle.store_commands.proofs.deleting.delete.Goals.{in_default-via-in-Some+in_default, in_default-via-in_default}
@@ -110,3 +111,27 @@ returns-in_default-clause-works g c = works_locked c.args.t.node.0 NoStop c.args
 
 pub returns-in_default-clause-writes : goal.returns-in_default-clause-writes
 returns-in_default-clause-writes g c = λ told. writes_locked c.args.t.node.0 c.args.store.now c.take_group.new.store c.take.new.self (g.D.Disk.state c.args.disk.now).block (g.D.Disk.state c.take_group.new.disk).block (c.take_group.ensures.writes told)
+
+-- ---- which pages make room
+
+pub returns-in_ok-write_there-in-Some-Some-clause-made_room : goal.returns-in_ok-write_there-in-Some-Some-clause-made_room
+returns-in_ok-write_there-in-Some-Some-clause-made_room g c = λ told.
+    room_then c.args.t.node c.args.key c.args.store.now c.take_group.new.store c.write_there.new.store (g.D.Disk.state c.args.disk.now).block (g.D.Disk.state c.take_group.new.disk).block (g.D.Disk.state c.write_there.new.disk).block c.take_group.ensures.works.shape
+    (c.in_ok-home.ensures.made_room told) (c.in_ok-write_there-in-Some-Some.ensures.pages told)
+
+pub returns-in_default-clause-made_room : goal.returns-in_default-clause-made_room
+returns-in_default-clause-made_room g c = λ told. c.in_ok-home.ensures.made_room told
+
+-- ---- what is refused leaves locks and transactions
+
+pub returns-in_err-home-clause-kept : goal.returns-in_err-home-clause-kept
+returns-in_err-home-clause-kept g c =
+    passed_on c.from_residual.result _ (λ why. says_stop why ≡ false → KeepsWork c.args.t.node.0 c.args.store.now c.take_group.new.store) c.from_residual.ensures.1
+    (λ why same. subst (λ e. says_stop e ≡ false → KeepsWork c.args.t.node.0 c.args.store.now c.take_group.new.store) (sym same) c.in_err-home.ensures.work)
+
+pub returns-in_err-write_there-in-Some-Some-clause-kept : goal.returns-in_err-write_there-in-Some-Some-clause-kept
+returns-in_err-write_there-in-Some-Some-clause-kept g c =
+    passed_on c.from_residual-in_err-write_there-in-Some-Some.result _ (λ why. says_stop why ≡ false → KeepsWork c.args.t.node.0 c.args.store.now c.write_there.new.store) c.from_residual-in_err-write_there-in-Some-Some.ensures.1
+    (λ why same runs.
+    let still = c.in_err-write_there-in-Some-Some.ensures.kept (ap says_stop (sym same) ∙ runs) in
+    subst (KeepsWork c.args.t.node.0 c.args.store.now) (sym still.0) (unless_ok c.take_group.result c.in_ok-home.home c.in_ok-home.was c.take_group.ensures.work))

@@ -1,4 +1,4 @@
-use Rattle.std.specs.Prelude.{◌≡◌, ◌++◌, ◌∷◌, [], true, Ok, Err, IfSome, IsOk, IsTrue, refl}
+use Rattle.std.specs.Prelude.{◌≡◌, false, Ok, Err, IfSome, IsTrue, refl}
 use Rattle.std.proofs.Common.{ap, subst, sym, ◌∙◌}
 use Rattle.sd_base.specs.Places.{map_of_key}
 use Rattle.sd_base.specs.declared.names.PageNo.{PageNo}
@@ -8,11 +8,11 @@ use Rattle.record_locks.specs.Answer.{lock_answer, may_take}
 use Rattle.script_text.specs.declared.command.Command.TheVariants as asks
 use Rattle.record_machine.specs.Commands.{found, parts, takes, takes_both}
 use Rattle.record_machine.specs.Machine.{Machine, home}
-use Rattle.record_machine.specs.Parts.{Lock, dos}
+use Rattle.record_machine.specs.Parts.{dos}
 use Rattle.store_nodes.specs.Causes.{IsToldOfPages}
-use Rattle.store_nodes.specs.Pages.{HasCached}
+use Rattle.store_nodes.specs.Pages.{HasCached, KeepsWork}
 use Rattle.store_nodes.specs.Shows.{IsShown}
-use Rattle.store_nodes.specs.Ports.{SaysStopOf}
+use Rattle.store_nodes.specs.Ports.{SaysStopOf, says_stop}
 use Rattle.store_commands.specs.Faults.{IsFaultFor}
 use Rattle.store_commands.specs.Reasons.{IsPageFor}
 use Rattle.store_commands.proofs.Groups.{both_cached}
@@ -95,3 +95,12 @@ returns-clause-taken g c = λ told m shown.
     let now = with_locks c.take_group.new.store c.take.new.self in
     let number : ◌≡◌ {A = PageNo} (record { 0 = map_of_key c.args.store.now.shape c.args.key.0 }) (record { 0 = map_of_key m.shape c.args.key.0 }) = ap (λ k. record { 0 = k }) (sym (map_of_key_is c.args.store.now n (g.D.Disk.state c.args.disk.now).block m c.requires.ready.is c.requires.node c.requires.up shown c.args.key.0)) in
     (subst (HasCached now n) number c.in_ok-home.ensures.map_cached, both_cached now n c.in_ok-home.home (home m c.args.key.0) c.args.store.now.shape c.in_ok-home.ensures.page (c.in_ok-home.ensures.found told m shown))
+
+pub returns-clause-made_room : goal.returns-clause-made_room
+returns-clause-made_room g c = λ told. c.in_ok-home.ensures.made_room told
+
+-- what is refused leaves locks and transactions
+pub returns-in_err-home-clause-kept : goal.returns-in_err-home-clause-kept
+returns-in_err-home-clause-kept g c =
+    passed_on c.from_residual.result _ (λ why. says_stop why ≡ false → KeepsWork c.args.t.node.0 c.args.store.now c.take_group.new.store) c.from_residual.ensures.1
+    (λ why same. subst (λ e. says_stop e ≡ false → KeepsWork c.args.t.node.0 c.args.store.now c.take_group.new.store) (sym same) c.in_err-home.ensures.work)

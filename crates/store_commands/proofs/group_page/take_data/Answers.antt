@@ -1,4 +1,4 @@
-use Rattle.std.specs.Prelude.{◌≡◌, ◌≤◌, ◌∷◌, [], true, false, Result, Ok, Err, IsTrue, IsOk, refl}
+use Rattle.std.specs.Prelude.{◌≡◌, ◌∷◌, [], true, Result, Ok, Err, IsTrue, IsOk, refl}
 use Rattle.std.proofs.Common.{arith, ap, subst, sym, ◌∙◌}
 use Rattle.sd_base.specs.Places.{page_of_place}
 use Rattle.sd_base.proofs.PlaceLaws.{map_of_its_place}
@@ -10,7 +10,7 @@ use Rattle.record_machine.specs.Machine.{Machine}
 use Rattle.record_machine.specs.Parts.{Take, one}
 use Rattle.store_nodes.specs.Causes.{IsFaultOfTake, IsToldOfPages}
 use Rattle.store_nodes.specs.Pages.{HasCached, ShowsMap}
-use Rattle.store_nodes.specs.Ports.{SaysStopOf, UnlessStop, WorksWith, says_stop}
+use Rattle.store_nodes.specs.Ports.{SaysStopOf, UnlessStop, says_stop}
 use Rattle.store_nodes.specs.Shows.{IsShown}
 use Rattle.store_nodes.specs.Known.{held_in}
 use Rattle.store_nodes.proofs.Images.{cached_map}

@@ -1,16 +1,17 @@
-use Rattle.std.specs.Prelude.{◌≡◌, ◌≤◌, ◌<◌, ◌∷◌, [], true, false, IsTrue, IsOk, Some, None, Ok, Err, option_map, IfSome, refl}
+use Rattle.std.specs.Prelude.{◌≡◌, ◌≤◌, ◌∷◌, [], true, IsTrue, IsOk, Some, None, Ok, Err, option_map, IfSome, refl}
 use Rattle.std.specs.List.{position}
 use Rattle.std.proofs.Common.{arith, ap, inl, subst, sym, ◌∙◌}
 use Rattle.sd_base.specs.Places.{group_of, map_of_key, page_of_place}
+use Rattle.sd_base.proofs.PlaceLaws.{map_of_its_place}
 use Rattle.sd_base.specs.declared.names.PageNo.{PageNo}
 use Rattle.space_map.specs.Entry.{is_used_by}
-use Rattle.space_map.specs.Image.{MapImage}
 use Rattle.private_log.specs.Reading.{contents}
 use Rattle.record_machine.specs.Commands.{takes_both}
 use Rattle.record_machine.specs.Machine.{Machine, home}
 use Rattle.record_machine.specs.Parts.{Take, dos, one}
 use Rattle.record_machine.specs.Steps.{held}
 use Rattle.store_nodes.specs.Causes.{IsFaultOfTake, IsToldOfPages}
+use Rattle.store_nodes.specs.Footprint.{KeepsHoldersBut, TookPage}
 use Rattle.store_nodes.specs.Pages.{ShowsMap}
 use Rattle.store_nodes.specs.Ports.{SaysStopOf, UnlessStop, says_stop}
 use Rattle.store_nodes.specs.Shows.{IsShown}
@@ -23,6 +24,7 @@ use Rattle.store_commands.proofs.BothTaken.{apart}
 use Rattle.store_commands.proofs.GroupTaken.{both_done, first_done, first_failed, second_failed}
 use Rattle.store_commands.proofs.Groups.{group_home, no_page_for, page_for, place_is}
 use Rattle.store_commands.proofs.Memory.{map_at_number}
+use Rattle.store_commands.proofs.RoomMade.{room_alone, room_both}
 use Rattle.store_commands.proofs.ShownImages.{map_of_key_is, one_image}
 use Rattle.store_commands.proofs.Stopping.{done_on, unless_ok, unless_pass, unless_then}
 use Rattle.store_commands.proofs.TakeSteps.{page_step, some_then}
@@ -302,3 +304,29 @@ returns-in-None-clause-map g c = λ image has.
     let here = subst (λ y. ShowsMap c.take.new.self c.args.n.0 y image) (ap (λ k. record { 0 = k }) (sym at)) has in
     let none = place_is s c.take.new.self c.args.n.0 c.args.key.0 c.map_of_key-map.result c.group.result c.place_of_group.result c.take.ensures.works.shape at c.group.ensures.group c.place_of_group.ensures.first image here ∙ c.in-None.is in
     sym (ap (option_map (page_of_place s (map_of_key s c.args.key.0))) none)
+
+-- ---- which pages make room
+
+pub returns-in_ok-x-in-Some-clause-made_room : goal.returns-in_ok-x-in-Some-clause-made_room
+returns-in_ok-x-in-Some-clause-made_room g c = λ told.
+    let me = c.args.store.now in
+    let map = c.map_of_key-map.result in
+    let x = c.in_ok-x-in-Some.x in
+    let at = c.map_of_key-map.ensures.at in
+    let same = c.take.ensures.works.shape in
+    let low = subst (λ o. IfSome o (λ k. k ≤ 251)) c.in-Some.is c.place_of_group.ensures.place in
+    let number : x.0 ≡ page_of_place me.shape map.0 c.in-Some.place = c.in_ok-x-in-Some.ensures.page.0 ∙ ap (λ t. page_of_place t map.0 c.in-Some.place) same in
+    room_both c.args.n c.args.key map x me c.take.new.self c.take_data.new.store (g.D.Disk.state c.args.disk.now).block (g.D.Disk.state c.take.new.disk).block (g.D.Disk.state c.take_data.new.disk).block
+    same c.map_of_key-map.ensures.low (subst (λ t. t.maps ≤ x.0) same c.in_ok-x-in-Some.ensures.page.1) (map_of_its_place me.shape x map c.in-Some.place (omega (arith, low)) number)
+    (inl at) (page_for me.shape c.args.key map x c.in-Some.place at low number) c.in_ok-take.ensures.owners (c.in_ok-take.ensures.made_room told) (c.in_ok-x-in-Some.ensures.made_room told)
+
+pub returns-in-None-clause-made_room : goal.returns-in-None-clause-made_room
+returns-in-None-clause-made_room g c = λ told.
+    room_alone c.args.n c.args.key c.map_of_key-map.result c.args.store.now c.take.new.self (g.D.Disk.state c.args.disk.now).block (g.D.Disk.state c.take.new.disk).block (inl c.map_of_key-map.ensures.at) (c.in_ok-take.ensures.made_room told)
+
+pub returns-in-None-clause-took : goal.returns-in-None-clause-took
+returns-in-None-clause-took g c = λ told.
+    subst (λ y. TookPage c.args.n y c.args.store.now c.take.new.self (g.D.Disk.state c.args.disk.now).block (g.D.Disk.state c.take.new.disk).block) (ap (λ k. record { 0 = k }) c.map_of_key-map.ensures.at) (c.in_ok-take.ensures.made_room told)
+
+pub returns-in-None-clause-owners : goal.returns-in-None-clause-owners
+returns-in-None-clause-owners g c = subst (λ y. KeepsHoldersBut y c.args.store.now c.take.new.self) (ap (λ k. record { 0 = k }) c.map_of_key-map.ensures.at) c.in_ok-take.ensures.owners

@@ -7,7 +7,7 @@ use Rattle.record_machine.specs.Parts.{Lock, one}
 use Rattle.record_machine.specs.Machine.{seen}
 use Rattle.store_nodes.specs.Pages.{value_after}
 use Rattle.store_nodes.specs.Shows.{IsShown}
-use Rattle.store_commands.proofs.Fits.{page_takes, raised_write, room_for, seat_busy}
+use Rattle.store_commands.proofs.Fits.{raised_write}
 use Rattle.store_commands.proofs.ShownLocks.{shown_locked, with_locks}
 use Rattle.store_commands.proofs.Testing.{on_done}
 use Rattle.store_commands.proofs.putting.write.Goals as goal

@@ -1,8 +1,9 @@
-use Rattle.std.specs.Prelude.{◌≡◌, ◌≤◌, ◌<◌, ◌∷◌, [], ℕ, true, false, IsTrue, IfSome, Some, Ok, Err, option_map, refl}
+use Rattle.std.specs.Prelude.{◌≡◌, ◌≤◌, ◌<◌, ◌∷◌, [], ℕ, true, false, IsTrue, IfSome, Some, Err, option_map, refl}
 use Rattle.std.proofs.Common.{arith, inl, inr, ap, subst, sym, ◌∙◌}
 use Rattle.sd_base.specs.Shape.{page_count}
 use Rattle.sd_base.specs.declared.names.PageNo.{PageNo}
 use Rattle.sd_base.specs.Places.{group_of, map_of_key, page_of_place, slot_of_key}
+use Rattle.sd_base.proofs.PlaceLaws.{map_of_its_place}
 use Rattle.compensation.specs.Inverse.{content}
 use Rattle.private_log.specs.Reading.{contents}
 use Rattle.record_locks.specs.declared.mode.Mode.TheVariants as locks
@@ -10,7 +11,7 @@ use Rattle.record_locks.specs.Answer.{lock_answer, may_take}
 use Rattle.script_text.specs.declared.reply.Reply.{Reply}
 use Rattle.record_machine.specs.Commands.{at_limit, first_of, no_page}
 use Rattle.record_machine.specs.Commands as wants
-use Rattle.record_machine.specs.Machine.{Machine, home, new_home, seen}
+use Rattle.record_machine.specs.Machine.{Machine, home, seen}
 use Rattle.record_machine.specs.Parts.{Take, Use, dos, one}
 use Rattle.record_machine.specs.Steps.{held}
 use Rattle.record_machine.proofs.UseSteps.{home_new}
@@ -19,9 +20,10 @@ use Rattle.store_nodes.specs.Footprint.{FillsNoBlock}
 use Rattle.store_nodes.specs.Known.{checked}
 use Rattle.store_nodes.specs.Nodes.{node_at}
 use Rattle.store_nodes.specs.declared.node.Node.TheVariants.{Down}
-use Rattle.store_nodes.specs.Pages.{HasCached, ShowsMap, value_after}
+use Rattle.store_nodes.specs.Pages.{HasCached, KeepsWork, ShowsMap, value_after}
 use Rattle.store_nodes.specs.Ports.{HasCause, IsStopReply, SaysStopOf, UnlessStop, says_stop}
 use Rattle.store_nodes.specs.Shows.{IsShown}
+use Rattle.store_nodes.proofs.WorksWith.{seats_same}
 use Rattle.store_commands.specs.Answering.{Answers, new_parts, new_takes}
 use Rattle.store_commands.specs.Changing.{length_refusal}
 use Rattle.store_commands.specs.Faults.{IsFaultFor, IsWriteReason}
@@ -32,6 +34,7 @@ use Rattle.store_commands.proofs.Fits.{busy_still, fits, map_takes, new_fits, pa
 use Rattle.store_commands.proofs.Groups.{page_for}
 use Rattle.store_commands.proofs.Memory.{fills_behind, fills_less, free_at, map_at_number}
 use Rattle.store_commands.proofs.Refusals.{new_refused, place_refused}
+use Rattle.store_commands.proofs.RoomMade.{took_then}
 use Rattle.store_commands.proofs.ShownImages.{map_of_key_is}
 use Rattle.store_commands.proofs.Stopping.{done_on, stop_on, unless_failed, unless_ok, unless_stopped}
 use Rattle.store_commands.proofs.Taken.{is_free}
@@ -382,3 +385,52 @@ returns-in_err-check_anew-clause-down g c =
     (λ why same h stopped.
     let late = new_late c.take_data.new.store c.args.t.node c.in_ok-x.x held.0.ident 3 c.args.what.now (content held.0 (slot_of_key c.args.key.0)) why c.map_of_key-map.result has_map.0.ident (sym (c.check_anew.ensures.tests has_map.0 held.0 has_map.1 held.1) ∙ c.in_err-check_anew.was ∙ ap Err (sym same)) in
     let never : true ≡ false = sym (stops h why stopped) ∙ late_runs why late in absurd cc)
+
+-- ---- which pages make room
+
+pub returns-clause-made_room : goal.returns-clause-made_room
+returns-clause-made_room g c = on_done c.write.result c.write.ensures.pages (λ kept told.
+    let me = c.args.store.now in
+    let n = c.args.t.node in
+    let map = c.map_of_key-map.result in
+    let x = c.in_ok-x.x in
+    let place = c.in_ok-place.place in
+    let low : place ≤ 251 = c.in_ok-place.ensures.place in
+    let at = c.map_of_key-map.ensures.at in
+    let page = c.in_ok-x.ensures.page in
+    let a = (g.D.Disk.state c.args.disk.now).block in
+    let e = (g.D.Disk.state c.use_place.new.disk).block in
+    let first = took_then n x me c.take_data.new.store c.use_place.new.self a (g.D.Disk.state c.take_data.new.disk).block e c.take_data.ensures.works.shape (c.in_ok-x.ensures.made_room told) (c.in_ok-use_place.ensures.pages told) in (
+      x,
+      page.1,
+      map_of_its_place me.shape x map place (omega (arith, low)) page.0 ∙ ap (λ k. record { 0 = k }) at,
+      page_for me.shape c.args.key map x place at low page.0,
+      took_then n x me c.use_place.new.self c.write.new.store a e (g.D.Disk.state c.write.new.disk).block (c.use_place.ensures.works.shape ∙ c.take_data.ensures.works.shape) first (kept told),
+    ))
+
+-- ---- what is refused leaves locks and transactions
+
+pub returns-in_err-place-clause-kept : goal.returns-in_err-place-clause-kept
+returns-in_err-place-clause-kept g c =
+    passed_on c.from_residual.result _ (λ why. says_stop why ≡ false → KeepsWork c.args.t.node.0 c.args.store.now c.args.store.now) c.from_residual.ensures.1
+    (λ why same runs. record { locks = refl; reopening = refl; seats = seats_same (node_at c.args.store.now.nodes c.args.t.node.0) (node_at c.args.store.now.nodes c.args.t.node.0) refl })
+
+pub returns-in_err-x-clause-kept : goal.returns-in_err-x-clause-kept
+returns-in_err-x-clause-kept g c =
+    passed_on c.from_residual-in_err-x.result _ (λ why. says_stop why ≡ false → KeepsWork c.args.t.node.0 c.args.store.now c.take_data.new.store) c.from_residual-in_err-x.ensures.1
+    (λ why same. subst (λ e. says_stop e ≡ false → KeepsWork c.args.t.node.0 c.args.store.now c.take_data.new.store) (sym same) c.in_err-x.ensures.work)
+
+pub returns-in_err-check_anew-clause-kept : goal.returns-in_err-check_anew-clause-kept
+returns-in_err-check_anew-clause-kept g c =
+    passed_on c.from_residual-in_err-check_anew.result _ (λ why. says_stop why ≡ false → KeepsWork c.args.t.node.0 c.args.store.now c.take_data.new.store) c.from_residual-in_err-check_anew.ensures.1
+    (λ why same runs. unless_ok c.take_data.result c.in_ok-x.x c.in_ok-x.was c.take_data.ensures.work)
+
+pub returns-in_err-use_place-clause-kept : goal.returns-in_err-use_place-clause-kept
+returns-in_err-use_place-clause-kept g c =
+    passed_on c.from_residual-in_err-use_place.result _ (λ why. says_stop why ≡ false → KeepsWork c.args.t.node.0 c.args.store.now c.use_place.new.self) c.from_residual-in_err-use_place.ensures.1
+    (λ why same runs. let never : true ≡ false = sym (stops c.args.t.node.0 why (subst (IsStopReply c.args.t.node.0) (sym same) c.in_err-use_place.ensures.stopped)) ∙ runs in absurd cc)
+
+pub returns-clause-kept : goal.returns-clause-kept
+returns-clause-kept g c =
+    error_then c.write.result (IsStopReply c.args.t.node.0) (λ why. says_stop why ≡ false → KeepsWork c.args.t.node.0 c.args.store.now c.write.new.store) c.write.ensures.stopped
+    (λ why is runs. let never : true ≡ false = sym (stops c.args.t.node.0 why is) ∙ runs in absurd cc)

@@ -1,34 +1,35 @@
-use Rattle.std.specs.Prelude.{◌≡◌, ◌⊎◌, ◌≤◌, ◌<◌, true, false, Some, None, Err, IfErr, IfNone, IfSome, IsTrue, option_map, refl}
+use Rattle.std.specs.Prelude.{◌≡◌, ◌⊎◌, ◌≤◌, ◌<◌, false, Some, None, Err, IfErr, IfNone, IfSome, IsTrue, option_map, refl}
 use Rattle.std.specs.List.{position}
 use Rattle.std.proofs.Common.{ap, inl, inr, subst, sym, ◌∙◌}
 use Rattle.sd_base.specs.Shape.{page_count}
 use Rattle.sd_base.specs.declared.names.PageNo.{PageNo}
-use Rattle.sd_base.specs.Places.{map_of_key, page_of_place}
+use Rattle.sd_base.specs.Places.{map_of_data, map_of_key, page_of_place}
+use Rattle.sd_base.proofs.PlaceLaws.{map_of_key-below}
 use Rattle.space_map.specs.Entry.{is_free}
 use Rattle.private_log.specs.Reading.{contents}
 use Rattle.record_locks.specs.declared.mode.Mode.TheVariants as locks
 use Rattle.record_locks.specs.Answer.{lock_answer, may_take}
-use Rattle.script_text.specs.declared.reply.Reply.{Reply}
 use Rattle.record_machine.specs.Commands.{takes_both}
 use Rattle.record_machine.specs.Machine.{Machine, home, new_home}
 use Rattle.record_machine.specs.Parts.{Take, dos, one}
 use Rattle.record_machine.specs.Steps.{held}
 use Rattle.store_nodes.specs.Causes.{IsToldOfPages}
-use Rattle.store_nodes.specs.Footprint.{FillsNoBlock}
-use Rattle.store_nodes.specs.Pages.{HasCached, ShowsMap}
-use Rattle.store_nodes.specs.Ports.{IsStopReply, SaysStopOf}
+use Rattle.store_nodes.specs.Footprint.{FillsNoBlock, KeepsHoldersBut, TookPage}
+use Rattle.store_nodes.specs.Pages.{HasCached, KeepsWork, ShowsMap}
+use Rattle.store_nodes.specs.Ports.{IsStopReply, SaysStopOf, says_stop}
 use Rattle.store_nodes.specs.Shows.{IsShown}
 use Rattle.store_commands.specs.AtHand.{CanWriteAt, HasBoth}
 use Rattle.store_commands.specs.Faults.{IsFaultFor, IsWriteReason}
 use Rattle.store_commands.specs.Reasons.{HasNoPage, IsPageFor, IsWriteRefusal}
 use Rattle.store_commands.proofs.Memory.{no_place, place_fills, places_cached}
+use Rattle.store_commands.proofs.RoomMade.{room_both, room_then}
 use Rattle.store_commands.proofs.ShownImages.{map_of_key_is}
 use Rattle.store_commands.proofs.ShownLocks.{takes_home}
 use Rattle.store_commands.proofs.Stopping.{done_on, unless_ok, unless_then}
 use Rattle.store_commands.proofs.Targets.{target_anew, target_failed, target_none, target_some, target_there, unless_runs}
 use Rattle.store_commands.proofs.Testing.{error_then, never, on_done, passed_on, the_error}
 use Rattle.store_commands.proofs.Told.{busy_kept, refusal_told, stop_told}
-use Rattle.store_commands.proofs.With.{NoStop, reason_before, says_none, says_on, stop_for, worker_before, works_alone, works_said, works_then, writes_alone, writes_then}
+use Rattle.store_commands.proofs.With.{NoStop, reason_before, says_none, says_on, stop_for, work_then, worker_before, works_alone, works_said, works_then, writes_alone, writes_then}
 use Rattle.store_commands.proofs.WriteParts.{changes_anew, changes_there, once_taken}
 use Rattle.store_commands.proofs.putting.write_record.Given as given
 use Rattle.store_commands.proofs.putting.write_record.Goals as goal
@@ -205,3 +206,45 @@ write_there-requires-clause-quiet g c = λ told. (c.take_group.ensures.writes to
 
 pub write_anew-requires-clause-quiet : goal.write_anew-requires-clause-quiet
 write_anew-requires-clause-quiet g c = λ told. (c.take_group.ensures.writes told).quiet
+
+-- ---- which pages make room
+
+pub returns-in-Some-clause-made_room : goal.returns-in-Some-clause-made_room
+returns-in-Some-clause-made_room g c = on_done c.write_there.result c.write_there.ensures.pages (λ kept told.
+    room_then c.args.t.node c.args.key c.args.store.now c.take_group.new.store c.write_there.new.store (g.D.Disk.state c.args.disk.now).block (g.D.Disk.state c.take_group.new.disk).block (g.D.Disk.state c.write_there.new.disk).block c.take_group.ensures.works.shape
+    (c.in_ok-x.ensures.made_room told) (kept told))
+
+pub returns-in-None-clause-made_room : goal.returns-in-None-clause-made_room
+returns-in-None-clause-made_room g c = on_done c.write_anew.result c.write_anew.ensures.made_room (λ made told.
+    let m = made told in
+    let now = c.args.store.now in
+    let mid = c.take_group.new.store in
+    let key = c.args.key in
+    let same = c.take_group.ensures.works.shape in
+    let map : PageNo = record { 0 = map_of_key now.shape key.0 } in
+    let a = (g.D.Disk.state c.args.disk.now).block in
+    let b = (g.D.Disk.state c.take_group.new.disk).block in
+    let far = subst (λ s. s.maps ≤ m.0.0) same m.1 in
+    room_both c.args.t.node key map m.0 now mid c.write_anew.new.store a b (g.D.Disk.state c.write_anew.new.disk).block same (map_of_key-below now.shape key.0 c.requires.ready.is.shared.shape) far
+    (subst (λ s. map_of_data s m.0 ≡ record { 0 = map_of_key s key.0 }) same m.2) (inl refl) (subst (λ s. IsPageFor s key m.0) same m.3)
+    (subst (λ o. IfNone o (KeepsHoldersBut map now mid)) c.in-None.is c.in_ok-x.ensures.owners)
+    (subst (λ o. IfNone o (IsTrue g.D.Disk.told → TookPage c.args.t.node map now mid a b)) c.in-None.is c.in_ok-x.ensures.took told) m.4)
+
+-- ---- what is refused leaves locks and transactions
+
+pub returns-in_err-x-clause-kept : goal.returns-in_err-x-clause-kept
+returns-in_err-x-clause-kept g c =
+    passed_on c.from_residual.result _ (λ why. says_stop why ≡ false → KeepsWork c.args.t.node.0 c.args.store.now c.take_group.new.store) c.from_residual.ensures.1
+    (λ why same. subst (λ e. says_stop e ≡ false → KeepsWork c.args.t.node.0 c.args.store.now c.take_group.new.store) (sym same) c.in_err-x.ensures.work)
+
+pub returns-in-Some-clause-kept : goal.returns-in-Some-clause-kept
+returns-in-Some-clause-kept g c =
+    let n = c.args.t.node.0 in
+    error_then c.write_there.result _ (λ why. says_stop why ≡ false → KeepsWork n c.args.store.now c.write_there.new.store) c.write_there.ensures.kept
+    (λ why same runs. subst (KeepsWork n c.args.store.now) (sym (same runs).0) (unless_ok c.take_group.result c.in_ok-x.field-0 c.in_ok-x.was c.take_group.ensures.work))
+
+pub returns-in-None-clause-kept : goal.returns-in-None-clause-kept
+returns-in-None-clause-kept g c =
+    let n = c.args.t.node.0 in
+    error_then c.write_anew.result _ (λ why. says_stop why ≡ false → KeepsWork n c.args.store.now c.write_anew.new.store) c.write_anew.ensures.kept
+    (λ why kept runs. work_then n c.args.store.now c.take_group.new.store c.write_anew.new.store (unless_ok c.take_group.result c.in_ok-x.field-0 c.in_ok-x.was c.take_group.ensures.work) (kept runs))

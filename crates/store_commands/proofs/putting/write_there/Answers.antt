@@ -1,5 +1,5 @@
-use Rattle.std.specs.Prelude.{◌≡◌, ◌⊎◌, ◌∷◌, [], ◌≤◌, ℕ, Some, Err, true, false, refl}
-use Rattle.std.proofs.Common.{arith, ap, inl, inr, subst, sym, ◌∙◌}
+use Rattle.std.specs.Prelude.{◌≡◌, ◌⊎◌, ◌∷◌, [], ℕ, Some, Err, true, false, refl}
+use Rattle.std.proofs.Common.{ap, inl, inr, sym, ◌∙◌}
 use Rattle.sd_base.specs.Places.{slot_of_key}
 use Rattle.compensation.specs.Inverse.{content}
 use Rattle.script_text.specs.declared.reply.Reply.{Reply}
@@ -9,7 +9,6 @@ use Rattle.record_machine.specs.Machine.{Machine, home, seen}
 use Rattle.store_nodes.specs.declared.node.Node.TheVariants.{Down}
 use Rattle.store_nodes.specs.Known.{checked}
 use Rattle.store_nodes.specs.Nodes.{node_at}
-use Rattle.store_nodes.specs.Pages.{room_in}
 use Rattle.store_nodes.specs.Ports.{HasCause, IsStopReply, says_stop}
 use Rattle.store_nodes.specs.Shows.{IsShown}
 use Rattle.store_commands.specs.Changing.{length_refusal}
