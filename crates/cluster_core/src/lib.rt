@@ -1,31 +1,16 @@
-//! The commands of a store: one node's cache and transactions, its locks and its pages, put together.
+//! An open store of one to eight nodes, as one value: `Cluster` executes commands, one at a time.
 //!
 //! It promises upward that a command does what the record machine does, and is refused for what the
-//! machine refuses it for; and that a store is formatted whole, or not at all. It stands on `txn_core`
-//! for a node's transactions, on `record_locks` and `page_owner` for who may touch what, on
-//! `store_format` for how a new store is written, and on `record_machine` for what all that means.
+//! machine refuses it for; that where a node stops in it that node is down; and that a store is formatted
+//! whole, or not at all. It stands on `store_nodes` for the nodes and what they share, on `store_commands`
+//! for the commands on records, and on `store_format` for how a new store is written.
 #![tactic(auto)]
 
-mod abort_pages;
-mod abort_updates;
-mod aborting;
-mod cached_pages;
-mod changing;
-mod checking;
 mod cluster;
-mod deleting;
 mod dumping;
 mod executing;
-mod fetch;
-mod flushing;
-mod getting;
-mod group_page;
-mod halting;
 mod lifetime;
-mod node;
-mod putting;
-mod starting;
-mod transacting;
+mod replies;
 
 pub use cluster::Cluster;
 pub use store_format::{

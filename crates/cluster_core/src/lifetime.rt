@@ -1,6 +1,6 @@
 //! A store is formatted and opened, for which its memory is taken; and an open one is closed.
 
-ghost use Rattle.std.specs.Prelude.{◌≡◌, ◌⊎◌, ◌+◌, ◌*◌, true, false, None, IsTrue, IfErr, IfOk, OnOk, OnErr, replicate};
+ghost use Rattle.std.specs.Prelude.{◌≡◌, ◌⊎◌, ◌+◌, ◌*◌, ℕ, true, false, None, IsTrue, IfErr, IfOk, OnOk, OnErr, replicate};
 ghost use Rattle.std.specs.FinMap.{empty};
 ghost use Rattle.sd_base.specs.Calls.{Narrows};
 ghost use Rattle.sd_base.specs.Shape.{IsShape, page_count};
@@ -9,21 +9,22 @@ ghost use Rattle.script_text.specs.declared.reply.Reply.TheVariants.{NoMem};
 ghost use Rattle.store_format.specs.Device.{ComesToRest, IsIdle, NarrowsAt, TakesOver};
 ghost use Rattle.store_format.specs.Formatted.{IsBornDisk, IsFormattedDisk, IsFormattedVault, TakesDisk, TakesVault};
 ghost use Rattle.store_format.specs.Refusal.{FitsSizes, HasSuper, IsFormatRefusal, IsRefusal, MayHaveSuper, MustHaveSuper, OnFound};
-ghost use Rattle.cluster_core.specs.declared.node.Node.TheVariants.{Idle};
-ghost use Rattle.cluster_core.specs.Ports.{IsQuiet, IsServed, says_stop};
-ghost use Rattle.cluster_core.specs.Shows.{ShowsStore};
+ghost use Rattle.store_nodes.specs.declared.node.Node.TheVariants.{Idle};
+ghost use Rattle.store_nodes.specs.Nodes.{IsPlace, IsStore, OthersStay, is_up, node_at};
+ghost use Rattle.store_nodes.specs.Ports.{IsQuiet, IsReady, says_stop};
+ghost use Rattle.store_nodes.specs.Shows.{ShowsStore};
 ghost use Rattle.record_machine.specs.Machine.{formatted};
 ghost use Rattle.record_machine.specs.Meaning.{born};
 
-use crate::cluster::{Cluster, Shared};
-use crate::node::Node;
+use crate::cluster::Cluster;
 use frame_pool::Pool;
 use page_owner::Owners;
 use record_locks::Locks;
 use script_text::Reply;
-use sd_base::{Arm, Disk, Shape};
+use sd_base::{Arm, Disk, NodeId, Shape};
 use std::alloc::{AllocError, Global};
 use store_format::{FIRST, law_of_formatted_disks, may_format, stop_all, write_store};
+use store_nodes::{NODES, Node, Shared, Store};
 
 /// Takes the memory of a store: 16 frames for each node, and 4 more.
 fn take_memory(alloc: Global, s: &Shape) -> Result<Shared, AllocError>
@@ -76,6 +77,80 @@ fn prepare<D: Disk, V: Disk>(
     }
 }
 
+/// The nodes of a store that has just been opened.
+fn idle_nodes() -> [Node; NODES]
+    ensures { result ≡ replicate 8 Idle }
+{
+    [
+        Node::Idle,
+        Node::Idle,
+        Node::Idle,
+        Node::Idle,
+        Node::Idle,
+        Node::Idle,
+        Node::Idle,
+        Node::Idle,
+    ]
+}
+
+/// Ends the cache of a node, if that is up, once all ports have stopped.
+fn take_one_down<D: Disk>(store: &mut Store, disk: &D, n: NodeId)
+    requires node { IsPlace n.0 }
+    requires is { IsStore store.old }
+    requires stopped { IsIdle (D.state disk.now) }
+    ensures is { IsStore store.new }
+    ensures down { is_up (node_at store.new.nodes n.0) ≡ false }
+    ensures others { OthersStay n.0 store.old.nodes store.new.nodes }
+{
+    if !store.node(n).is_up() {
+        return;
+    }
+    store.take_down(disk, n);
+}
+
+/// Ends the caches of all nodes that are up, once all ports have stopped.
+fn take_all_down<D: Disk>(mut store: Store, disk: &D) -> [Node; NODES]
+    requires is { IsStore store }
+    requires stopped { IsIdle (D.state disk.now) }
+    ensures { (n : ℕ) → IsPlace n → is_up (node_at result n) ≡ false }
+{
+    for n in 1..9 {
+        take_one_down(&mut store, disk, NodeId(n));
+    }
+    let Store {
+        shape: _shape,
+        shared: _shared,
+        nodes,
+    } = store;
+    nodes
+}
+
+/// Ends a node that isn't up.
+fn end_node(node: Node)
+    requires { is_up node ≡ false }
+{
+    match node {
+        Node::Idle | Node::Down => (),
+        Node::Up(_cache, _seats) => unreachable!(),
+    }
+}
+
+/// Ends nodes of which none is up. Each is ended by itself: an array of nodes can't be let go, since a
+/// node could have a cache.
+fn end_nodes(nodes: [Node; NODES])
+    requires { (n : ℕ) → IsPlace n → is_up (node_at nodes n) ≡ false }
+{
+    let [first, second, third, fourth, fifth, sixth, seventh, eighth] = nodes;
+    end_node(first);
+    end_node(second);
+    end_node(third);
+    end_node(fourth);
+    end_node(fifth);
+    end_node(sixth);
+    end_node(seventh);
+    end_node(eighth);
+}
+
 impl Cluster {
     /// Writes an empty store of this shape to two devices, and opens it.
     ///
@@ -89,7 +164,6 @@ impl Cluster {
         s: Shape,
     ) -> Result<Cluster, Reply>
         requires shape { IsShape s }
-        requires one { s.nodes ≡ 1 }
         ensures disk { TakesOver (D.state disk.old) (D.state disk.new) }
         ensures vault { TakesOver (V.state vault.old) (V.state vault.new) }
         ensures disk_idle { IsIdle (D.state disk.new) }
@@ -105,8 +179,8 @@ impl Cluster {
         ensures super_behind_disk { OnErr result (IsTrue D.told → NarrowsAt 0 (D.state disk.old).block (D.state disk.new).block ⊎ IsBornDisk s (D.state disk.new).block) }
         ensures super_behind_vault { OnErr result (IsTrue D.told → IsTrue V.told → NarrowsAt 0 (D.state disk.old).block (D.state disk.new).block ⊎ IsFormattedVault s (V.state vault.new).block) }
         ensures shape { IfOk result (λ c. c.shape ≡ s) }
-        ensures idle { IfOk result (λ c. c.node ≡ Idle) }
-        ensures served { IfOk result (λ c. IsServed c (D.state disk.new) (V.state vault.new)) }
+        ensures idle { IfOk result (λ c. (n : ℕ) → IsPlace n → node_at c.nodes n ≡ Idle) }
+        ensures ready { IfOk result (λ c. IsReady c (D.state disk.new) (V.state vault.new)) }
         ensures quiet { IfOk result (λ c. IsTrue D.told → IsQuiet c (D.state disk.new).block) }
         ensures shows { IfOk result (λ c. IsTrue D.told → ShowsStore c (D.state disk.new).block (born s) (formatted s)) }
         ensures disk_done { OnOk result (IsTrue D.told → IsFormattedDisk s (D.state disk.new).block) }
@@ -116,14 +190,17 @@ impl Cluster {
         write_store(disk, vault, &s)?;
         law_of_formatted_disks();
         Ok(Cluster {
-            shape: s,
-            shared,
-            node: Node::Idle,
+            store: Store {
+                shape: s,
+                shared,
+                nodes: idle_nodes(),
+            },
         })
     }
 
     /// Ends a store that is open: all ports of both devices stop.
     pub fn close<D: Arm, V: Arm>(self, disk: &mut D, vault: &mut V)
+        requires is { IsStore self }
         ensures disk_idle { IsIdle (D.state disk.new) }
         ensures vault_idle { IsIdle (V.state vault.new) }
         ensures disk { TakesOver (D.state disk.old) (D.state disk.new) }
@@ -133,20 +210,7 @@ impl Cluster {
     {
         stop_all(disk);
         stop_all(vault);
-        let Cluster {
-            shape: _shape,
-            shared,
-            node,
-        } = self;
-        let Shared {
-            mut pool,
-            mut owners,
-            locks: _locks,
-            reopening: _reopening,
-        } = shared;
-        match node {
-            Node::Up(cache, _seats) => cache.wreck(disk, &mut pool, &mut owners),
-            Node::Idle | Node::Down => (),
-        }
+        let Cluster { store } = self;
+        end_nodes(take_all_down(store, disk));
     }
 }

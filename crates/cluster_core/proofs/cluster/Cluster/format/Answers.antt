@@ -1,9 +1,5 @@
-use Rattle.std.proofs.Common.{ℕ, false, arith, inl, inr, subst, sym}
-use Rattle.cluster_core.specs.Shows.{ShowsStore}
-use Rattle.cluster_core.specs.declared.node.Node.TheVariants.{Idle}
-use Rattle.record_machine.specs.Machine.{formatted}
-use Rattle.record_machine.specs.Meaning.{born}
-use Rattle.cluster_core.proofs.Opened.{after_failure, narrows_as, shows_formatted}
+use Rattle.std.proofs.Common.{arith, inl, inr, ℕ}
+use Rattle.cluster_core.proofs.Opened.{after_failure, idle_then, narrows_as, opened_is, opened_served, opened_shows, shows_opened}
 use Rattle.cluster_core.proofs.cluster.Cluster.format.Goals as goal
 
 pub returns-in_err-write_store-clause-super_behind_disk : goal.returns-in_err-write_store-clause-super_behind_disk
@@ -26,18 +22,32 @@ returns-in_err-write_store-clause-super_behind_vault g c = after_failure c.from_
       | inr whole ↦ inr whole
     ])
 
+pub returns-clause-ready : goal.returns-clause-ready
+returns-clause-ready g c =
+    let made = c.in_ok-shared.ensures in
+    let first = g.D.Disk.state c.args.disk.now in
+    let stopped = g.D.Disk.state c.prepare.new.disk in
+    let last = g.D.Disk.state c.write_store.new.disk in
+    let vault_last = g.V.Disk.state c.write_store.new.vault in
+    let fits = made.sizes.0 in
+    let same = c.prepare.ensures.disk.size in
+    let more = c.write_store.ensures.disk.size in
+    record {
+      is = opened_is c.args.s c.in_ok-shared.shared.pool c.in_ok-shared.shared.owners c.idle_nodes.result c.requires.shape made.pool made.owners c.idle_nodes.ensures;
+      served = opened_served c.args.s c.idle_nodes.result last vault_last c.idle_nodes.ensures
+          (λ k low. g.met.D.Disk.reaches c.write_store.new.disk k (omega (arith, low, fits, same, more)))
+          (idle_then first stopped last c.prepare.ensures.disk c.write_store.ensures.disk c.write_store.ensures.disk_stopped)
+          (idle_then (g.V.Disk.state c.args.vault.now) (g.V.Disk.state c.prepare.new.vault) vault_last c.prepare.ensures.vault c.write_store.ensures.vault c.write_store.ensures.vault_stopped);
+    }
+
 pub returns-clause-shows : goal.returns-clause-shows
 returns-clause-shows g c = λ told.
     let s = c.args.s in
-    let shared = c.in_ok-shared.shared in
+    let made = c.in_ok-shared.ensures in
     let b = (g.D.Disk.state c.write_store.new.disk).block in
     let lawful = λ (k : ℕ). g.met.D.Disk.lawful c.write_store.new.disk k told in
     let disk = (c.in_ok-write_store.ensures.disk_done told).born in
-    let one = c.requires.one in
     let log = c.law_of_formatted_disks.ensures in
-    let shown = shows_formatted s shared.pool shared.owners b c.requires.shape disk
-    (log.still s 1 b (c.write_store.ensures.disk_blocks told).quiet)
-    (log.log s 1 b c.requires.shape (omega arith) (omega (arith, one)) lawful disk)
-    (log.no_future s 1 b (omega arith) (omega (arith, one)) lawful disk) in
-    subst (λ r. ShowsStore (record { shape = s; pool = shared.pool; owners = shared.owners; locks = shared.locks; node = Idle; reopening = r }) b (born s) (formatted s)) (sym c.in_ok-shared.ensures.reopening)
-    (subst (λ l. ShowsStore (record { shape = s; pool = shared.pool; owners = shared.owners; locks = l; node = Idle; reopening = false }) b (born s) (formatted s)) (sym c.in_ok-shared.ensures.locks) shown)
+    opened_shows s c.in_ok-shared.shared c.idle_nodes.result b made.pool made.owners made.locks made.reopening c.idle_nodes.ensures
+    (shows_opened s b c.requires.shape disk (λ n place last.
+    (log.still s n b (c.write_store.ensures.disk_blocks told).quiet, log.log s n b c.requires.shape place.0 last lawful disk, log.no_future s n b place.0 last lawful disk)))
