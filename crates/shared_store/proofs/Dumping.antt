@@ -1,5 +1,5 @@
 -- The replies to a dump, one row after the other.
-use Rattle.std.specs.Prelude.{◌≤◌, ◌<◌, ◌^◌, ◌-◌, map}
+use Rattle.std.specs.Prelude.{◌≤◌, ◌<◌, ◌^◌, ◌-◌, map, not}
 use Rattle.std.proofs.Common.{◌≡◌, ◌≢◌, ◌⊎◌, ◌+◌, ◌∙◌, ℕ, Bool, true, false, List, [], ◌∷◌, ◌++◌, Option, Some, None, length, take, drop, inl, inr, refl, ap, sym, subst, arith, append_assoc}
 use Rattle.std.proofs.lemmas.List.{append-nil, map-append, take-append-drop}
 use Rattle.std.proofs.lemmas.List.Concat.{flat_map-append}
@@ -10,11 +10,15 @@ use Rattle.script_text.specs.Reply.{reply_text}
 use Rattle.script_text.specs.declared.command.Command.TheVariants as asks
 use Rattle.script_text.specs.declared.reply.Reply.{Reply}
 use Rattle.script_text.specs.declared.reply.Reply.TheVariants as says
-use Rattle.record_machine.specs.Commands.{refusal}
-use Rattle.record_machine.specs.Machine.{Machine}
-use Rattle.record_machine.specs.Rows.{AreAllRows, AreRows, DumpStep, IsInUse, IsNextRow, Row, RowStep, Takes, row_reply}
+use Rattle.record_machine.specs.Commands as machine
+use Rattle.record_machine.specs.Commands.{first_of, where_so}
+use Rattle.record_machine.specs.Machine.{LooseChange, Machine, is_up}
+use Rattle.record_machine.specs.Parts.{dos}
+use Rattle.record_machine.specs.Rows.{AreRows, IsNextRow, Row, row_reply}
+use Rattle.record_machine.specs.Steps.{DumpEnds, DumpOrStop, IsLostPage, NextOrStop, RowOrStop, TakesPages, all_rows, held_by, lost, refused_for, reopening, take_all}
 use Rattle.record_machine.proofs.RowLaws.{no_rows, rows_all, rows_more, rows_rest}
-use Rattle.cluster_core.specs.Ports.{says_stop}
+use Rattle.store_nodes.specs.Ports.{says_stop}
+use Rattle.store_commands.proofs.TakenAll.{before_taken, behind_taken, held_then, takes_then}
 use Rattle.shared_store.specs.Answering.{IsRowFrom, NextAnswered, NextOpen, end_of_dump}
 use Rattle.shared_store.specs.Output.{IsPart}
 use Rattle.shared_store.specs.StoreState.{StoreState, shut, opened, stopped, AnswersDump}
@@ -23,33 +27,47 @@ use Rattle.shared_store.proofs.Answering.{IsNoRow, refusal_no_row}
 
 -- ---- the machine, when it was asked for some rows
 
--- a node that has taken pages twice
-Takes-then : (m : Machine) (n : NodeId) (hold : ℕ → Option ℕ) (S : Machine → Type 0) → ((x : ℕ) → (hold x ≡ m.hold x) ⊎ ((hold x ≡ Some n.0) × IsInUse m x)) → Takes (record m { hold = hold }) n S → Takes m n S
-Takes-then m n hold S taken t = record { hold = t.hold; taken = λ x. by x (t.taken x); after = t.after }
+-- the node of a dump that isn't refused is up
+dump_up : (m : Machine) (n : NodeId) → refused_for m (asks.Dump n) ≡ None → is_up (m.mode n.0) ≡ true
+dump_up m n none = by (machine.no_node m n) (is_up (m.mode n.0)) refl none
   where
-    by : (x : ℕ) → (t.hold x ≡ hold x) ⊎ ((t.hold x ≡ Some n.0) × IsInUse (record m { hold = hold }) x) → (t.hold x ≡ m.hold x) ⊎ ((t.hold x ≡ Some n.0) × IsInUse m x)
-    by x (inr now) = inr now
-    by x (inl same) = elim (taken x) [
-      | inl before ↦ inl (same ∙ before)
-      | inr before ↦ inr (same ∙ before.0, before.1)
-    ]
+    by : (o : Option Reply) (up : Bool) → is_up (m.mode n.0) ≡ up → first_of (o ∷ where_so (not up) (says.NotUp n) ∷ machine.any_lock m ∷ reopening m ∷ []) ≡ None → is_up (m.mode n.0) ≡ true
+    by (Some why) up is none = cc
+    by None true is none = is
+    by None false is none = cc
 
--- what the next row is, the machine says whatever pages are held
-next_row : (m : Machine) (hold : ℕ → Option ℕ) (first : ℕ) (reply : Reply) → IsNextRow (record m { hold = hold }) first reply → IsNextRow m first reply
-next_row m hold first (says.Row key value) is = record { from = is.from; there = is.there; least = is.least }
-next_row m hold first says.NoMore is = is
-next_row m hold first reply is = absurd is
+-- Node n has taken pages. What it is asked for next is so from the first on.
+module _ (m : Machine) (n : NodeId) (S : Machine → Type 0) (allowed : refused_for m (asks.Dump n) ≡ None) (taken : TakesPages m n S) where
+  -- the machine then
+  abbrev later : Machine
+  later = dos (take_all n.0 taken.pages) m
 
-RowStep-then : (m : Machine) (n : NodeId) (hold : ℕ → Option ℕ) (first : ℕ) (reply : Reply) (S : Machine → Type 0) → ((x : ℕ) → (hold x ≡ m.hold x) ⊎ ((hold x ≡ Some n.0) × IsInUse m x)) → refusal m (asks.Dump n) ≡ None
-    → RowStep (record m { hold = hold }) n first reply S → RowStep m n first reply S
-RowStep-then m n hold first reply S taken none step =
-    let same : refusal (record m { hold = hold }) (asks.Dump n) ≡ None = none in
-    let h = rw same at step in rw none (next_row m hold first reply h.0, Takes-then m n hold S taken h.1)
+  still_allowed : refused_for later (asks.Dump n) ≡ None
+  still_allowed = behind_taken (λ k. refused_for k (asks.Dump n) ≡ None) n.0 taken.pages m (λ hold loose is. is) allowed
 
-NextOpen-then : (stops : Bool) (m : Machine) (n : NodeId) (hold : ℕ → Option ℕ) (first : ℕ) (reply : Reply) (S : StoreState → Type 0) → ((x : ℕ) → (hold x ≡ m.hold x) ⊎ ((hold x ≡ Some n.0) × IsInUse m x)) → refusal m (asks.Dump n) ≡ None
-    → NextOpen stops (record m { hold = hold }) n first reply S → NextOpen stops m n first reply S
-NextOpen-then true m n hold first reply S taken none next = next
-NextOpen-then false m n hold first reply S taken none next = RowStep-then m n hold first reply (λ k. S (opened k)) taken none next
+  lost_then : (x : ℕ) → IsLostPage later x → IsLostPage m x
+  lost_then x is = before_taken (λ k. IsLostPage k x) n.0 taken.pages m (λ hold loose now. now) is
+
+  row_then : (first : ℕ) (reply : Reply) → IsNextRow later first reply → IsNextRow m first reply
+  row_then first reply is = before_taken (λ k. IsNextRow k first reply) n.0 taken.pages m (λ hold loose. by hold loose reply) is
+    where
+      by : (hold : ℕ → Option ℕ) (loose : ℕ → List LooseChange) (reply : Reply) → IsNextRow (record m { hold = hold; loose = loose }) first reply → IsNextRow m first reply
+      by hold loose (says.Row key value) now = record { from = now.from; there = now.there; least = now.least }
+      by hold loose says.NoMore now = now
+      by hold loose reply now = absurd now
+
+  NextOrStop-then : (first : ℕ) (reply : Reply) (T : Machine → Type 0) → says_stop reply ≡ false → NextOrStop later n first reply T → NextOrStop m n first reply T
+  NextOrStop-then first (says.Stopped h) T runs next = cc
+  NextOrStop-then first (says.Fault h) T runs next = cc
+  NextOrStop-then first (says.Held x h) T runs next = (held_then m n S (dump_up m n allowed) taken x.0 h.0 next.0, takes_then m n S (dump_up m n allowed) taken T next.1)
+  NextOrStop-then first (says.LostPage x) T runs next = (lost_then x.0 next.0, takes_then m n S (dump_up m n allowed) taken T next.1)
+  NextOrStop-then first reply T runs next = (row_then first reply next.0, takes_then m n S (dump_up m n allowed) taken T next.1)
+
+  NextOpen-then : (stops : Bool) (first : ℕ) (reply : Reply) (T : StoreState → Type 0) → says_stop reply ≡ stops → NextOpen stops later n first reply T → NextOpen stops m n first reply T
+  NextOpen-then true first reply T runs next = next
+  NextOpen-then false first reply T runs next =
+      let step : NextOrStop later n first reply (λ k. T (opened k)) = rw still_allowed at next in
+      rw allowed (NextOrStop-then first reply (λ k. T (opened k)) runs step)
 
 -- ---- a dump that goes on
 
@@ -59,7 +77,7 @@ pub record GoesOnOpen (m : Machine) (n : NodeId) (rows : List Row) (reply : Repl
   pub first : ℕ
   pub below : first ≤ 2 ^ 32
   pub are : AreRows m first rows
-  pub allowed : (rows ≡ []) ⊎ (refusal m (asks.Dump n) ≡ None)
+  pub allowed : (rows ≡ []) ⊎ (refused_for m (asks.Dump n) ≡ None)
   pub next : NextOpen (says_stop reply) m n first reply S
 
 -- and from this state of a store
@@ -76,13 +94,13 @@ dumps_none stopped n reply S next = next
 -- the row that was found from there on
 record Finds (m : Machine) (n : NodeId) (rows : List Row) (key : Key) (value : List ℕ) (S : StoreState → Type 0) : Type 0 where
   pub are : AreRows m (key.0 + 1) (rows ++ record { key = key; value = value } ∷ [])
-  pub allowed : refusal m (asks.Dump n) ≡ None
-  pub takes : Takes m n (λ next. S (opened next))
+  pub allowed : refused_for m (asks.Dump n) ≡ None
+  pub takes : TakesPages m n (λ next. S (opened next))
 
 found_row : (m : Machine) (n : NodeId) (rows : List Row) (key : Key) (value : List ℕ) (S : StoreState → Type 0) → GoesOnOpen m n rows (says.Row key value) S → Finds m n rows key value S
-found_row m n rows key value S on = by (refusal m (asks.Dump n)) refl
+found_row m n rows key value S on = by (refused_for m (asks.Dump n)) refl
   where
-    by : (o : Option Reply) → refusal m (asks.Dump n) ≡ o → Finds m n rows key value S
+    by : (o : Option Reply) → refused_for m (asks.Dump n) ≡ o → Finds m n rows key value S
     by None is = let h = rw is at on.next in record { are = rows_more m on.first key value rows on.are h.0; allowed = is; takes = h.1 }
     by (Some why) is = let h = rw is at on.next in absurd (subst IsNoRow (sym h.0) (refusal_no_row m n why is))
 
@@ -97,7 +115,7 @@ dumps_more (opened m) n rows key value reply S T range on next =
       below = omega (arith, range);
       are = found.are;
       allowed = inr found.allowed;
-      next = NextOpen-then (says_stop reply) m n found.takes.hold (key.0 + 1) reply T found.takes.taken found.allowed (next _ found.takes.after);
+      next = NextOpen-then m n (λ k. S (opened k)) found.allowed found.takes (says_stop reply) (key.0 + 1) reply T refl (next _ found.takes.after);
     }
 dumps_more stopped n rows key value reply S T range on next = next stopped on
 
@@ -117,23 +135,27 @@ dumps_end (opened m) n rows reply S ends on = by (says_stop reply) refl
     why_last says.NoMore none = absurd none
     why_last why none = refl
 
-    all : (reply : Reply) → ((key : Key) (value : List ℕ) → reply ≢ says.Row key value) → IsNextRow m on.first reply → AreAllRows m (map row_reply rows ++ end_of_dump reply (length rows) ∷ [])
-    all (says.Row key value) ends is = absurd (ends key value refl)
-    all says.NoMore ends is = record { rows = rows; are = rows_all m on.first rows on.below on.are is; said = refl }
-    all reply ends is = absurd is
+    last : (reply : Reply) → ((key : Key) (value : List ℕ) → reply ≢ says.Row key value) → says_stop reply ≡ false → NextOrStop m n on.first reply (λ k. S (opened k)) → DumpEnds m n (map row_reply rows ++ end_of_dump reply (length rows) ∷ []) (λ k. S (opened k))
+    last (says.Stopped h) ends runs next = cc
+    last (says.Fault h) ends runs next = cc
+    last (says.Held x h) ends runs next = held_by x.0 h.0 (record { end = on.first; rows = rows; are = on.are; said = refl }) next.0 next.1
+    last (says.LostPage x) ends runs next = lost x.0 (record { end = on.first; rows = rows; are = on.are; said = refl }) next.0 next.1
+    last (says.Row key value) ends runs next = absurd (ends key value refl)
+    last says.NoMore ends runs next = all_rows (record { rows = rows; are = rows_all m on.first rows on.below on.are next.0; said = refl }) next.1
+    last reply ends runs next = absurd next.0
 
-    refused : (why : Reply) → refusal m (asks.Dump n) ≡ Some why → reply ≡ why → map row_reply rows ++ end_of_dump reply (length rows) ∷ [] ≡ why ∷ []
+    refused : (why : Reply) → refused_for m (asks.Dump n) ≡ Some why → reply ≡ why → map row_reply rows ++ end_of_dump reply (length rows) ∷ [] ≡ why ∷ []
     refused why is same = elim on.allowed [
       | inl none ↦ ap (λ rs. map row_reply rs ++ end_of_dump reply (length rows) ∷ []) none ∙ ap (λ r. end_of_dump r (length rows) ∷ []) same ∙ ap (λ r. r ∷ []) (why_last why (refusal_no_row m n why is))
       | inr allowed ↦ let never : Some why ≡ None = sym is ∙ allowed in cc
     ]
 
-    step : (o : Option Reply) → refusal m (asks.Dump n) ≡ o → says_stop reply ≡ false → DumpStep m n (map row_reply rows ++ end_of_dump reply (length rows) ∷ []) (λ next. S (opened next))
+    step : (o : Option Reply) → refused_for m (asks.Dump n) ≡ o → says_stop reply ≡ false → DumpOrStop m n (map row_reply rows ++ end_of_dump reply (length rows) ∷ []) (λ next. S (opened next))
     step None is runs =
-        let next : RowStep m n on.first reply (λ k. S (opened k)) = subst (λ b. NextOpen b m n on.first reply S) runs on.next in
-        let h = rw is at next in rw is (all reply ends h.0, h.1)
+        let next : RowOrStop m n on.first reply (λ k. S (opened k)) = subst (λ b. NextOpen b m n on.first reply S) runs on.next in
+        let h = rw is at next in rw is (last reply ends runs h)
     step (Some why) is runs =
-        let next : RowStep m n on.first reply (λ k. S (opened k)) = subst (λ b. NextOpen b m n on.first reply S) runs on.next in
+        let next : RowOrStop m n on.first reply (λ k. S (opened k)) = subst (λ b. NextOpen b m n on.first reply S) runs on.next in
         let h = rw is at next in rw is (refused why is h.0, h.1)
 
     by : (stops : Bool) → says_stop reply ≡ stops → AnswersDump (opened m) n (map row_reply rows ++ end_of_dump reply (length rows) ∷ []) S
@@ -141,7 +163,7 @@ dumps_end (opened m) n rows reply S ends on = by (says_stop reply) refl
       record { end = on.first; rows = rows; are = on.are; last = reply; stops = is; said = ap (λ r. map row_reply rows ++ r ∷ []) (stop_last reply is) },
       subst (λ b. NextOpen b m n on.first reply S) is on.next,
     )
-    by false is = inl (step (refusal m (asks.Dump n)) refl is)
+    by false is = inl (step (refused_for m (asks.Dump n)) refl is)
 dumps_end stopped n rows reply S ends on = ((rows, end_of_dump reply (length rows), refl), on)
 
 -- the sink failed at a row: those behind it are the machine's
@@ -168,7 +190,7 @@ dumps_rest (opened m) n rows key value S range on =
     record {
       more = rest.0;
       count = count;
-      answers = inl (rw found.allowed (record { rows = (rows ++ row ∷ []) ++ rest.0; are = rest.1; said = joined rows rest.0 row (says.EndDump count ∷ []) }, found.takes));
+      answers = inl (rw found.allowed (all_rows (record { rows = (rows ++ row ∷ []) ++ rest.0; are = rest.1; said = joined rows rest.0 row (says.EndDump count ∷ []) }) found.takes));
     }
 dumps_rest stopped n rows key value S range on =
     let row : Row = record { key = key; value = value } in

@@ -1,5 +1,6 @@
 mod Buffering
 mod Counting
+mod Stepping
 mod Running
 mod Formats
 mod Answering

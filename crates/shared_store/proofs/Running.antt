@@ -3,45 +3,27 @@ use Rattle.std.proofs.Common.{◌≡◌, ℕ, Bool, true, false, List, [], ◌�
 use Rattle.sd_base.specs.declared.device.NodeId.{NodeId}
 use Rattle.script_text.specs.Command.{Means}
 use Rattle.script_text.specs.declared.command.Command.{Command}
-use Rattle.script_text.specs.declared.command.Command.TheVariants as asks
 use Rattle.script_text.specs.declared.reply.Reply.{Reply}
-use Rattle.record_machine.specs.Commands.{Step, refusal}
 use Rattle.record_machine.specs.Machine.{Machine}
-use Rattle.record_machine.specs.Rows.{DumpStep, Takes, dumped_by}
-use Rattle.cluster_core.specs.Ports.{says_stop}
+use Rattle.record_machine.specs.Rows.{dumped_by}
+use Rattle.store_nodes.specs.Ports.{says_stop}
 use Rattle.shared_store.specs.StoreState.{StoreState, shut, opened, stopped, Answered, AnsweredOnce, AnswersDump, AnswersOpen, Run}
+use Rattle.shared_store.proofs.Stepping.{DumpOrStop-end, DumpOrStop-map, StepOrStop-end, StepOrStop-map}
 
 -- ---- the same answers, with more that holds of the states after them
 
-pub Step-map : (m : Machine) (c : Command) (r : Reply) (S T : Machine → Type 0) → ((k : Machine) → S k → T k) → Step m c r S → Step m c r T
-Step-map m c r S T f step = by (refusal m c) refl
-  where
-    by : (o : Option Reply) → refusal m c ≡ o → Step m c r T
-    by None is = let h = rw is at step in rw is (h.0, f _ h.1)
-    by (Some why) is = let h = rw is at step in rw is (h.0, f _ h.1)
-
 AnswersOpen-map : (stops : Bool) (m : Machine) (c : Command) (r : Reply) (S T : StoreState → Type 0) → ((k : StoreState) → S k → T k) → AnswersOpen stops m c r S → AnswersOpen stops m c r T
 AnswersOpen-map true m c r S T f a = (a.0, f stopped a.1)
-AnswersOpen-map false m c r S T f a = Step-map m c r (λ k. S (opened k)) (λ k. T (opened k)) (λ k. f (opened k)) a
+AnswersOpen-map false m c r S T f a = StepOrStop-map (λ k. S (opened k)) (λ k. T (opened k)) (λ k. f (opened k)) m c r a
 
 AnsweredOnce-map : (disk vault : ℕ) (state : StoreState) (c : Command) (r : Reply) (S T : StoreState → Type 0) → ((k : StoreState) → S k → T k) → AnsweredOnce disk vault state c r S → AnsweredOnce disk vault state c r T
 AnsweredOnce-map disk vault (shut seal) c r S T f a = (a.0, f _ a.1)
 AnsweredOnce-map disk vault (opened m) c r S T f a = AnswersOpen-map (says_stop r) m c r S T f a
 AnsweredOnce-map disk vault stopped c r S T f a = (a.0, f stopped a.1)
 
-pub Takes-map : (m : Machine) (n : NodeId) (S T : Machine → Type 0) → ((k : Machine) → S k → T k) → Takes m n S → Takes m n T
-Takes-map m n S T f t = record { hold = t.hold; taken = t.taken; after = f _ t.after }
-
-pub DumpStep-map : (m : Machine) (n : NodeId) (said : List Reply) (S T : Machine → Type 0) → ((k : Machine) → S k → T k) → DumpStep m n said S → DumpStep m n said T
-DumpStep-map m n said S T f step = by (refusal m (asks.Dump n)) refl
-  where
-    by : (o : Option Reply) → refusal m (asks.Dump n) ≡ o → DumpStep m n said T
-    by None is = let h = rw is at step in rw is (h.0, Takes-map m n S T f h.1)
-    by (Some why) is = let h = rw is at step in rw is (h.0, f m h.1)
-
 AnswersDump-map : (state : StoreState) (n : NodeId) (said : List Reply) (S T : StoreState → Type 0) → ((k : StoreState) → S k → T k) → AnswersDump state n said S → AnswersDump state n said T
 AnswersDump-map (shut seal) n said S T f a = (a.0, f (shut seal) a.1)
-AnswersDump-map (opened m) n said S T f (inl step) = inl (DumpStep-map m n said (λ k. S (opened k)) (λ k. T (opened k)) (λ k. f (opened k)) step)
+AnswersDump-map (opened m) n said S T f (inl step) = inl (DumpOrStop-map (λ k. S (opened k)) (λ k. T (opened k)) (λ k. f (opened k)) m n said step)
 AnswersDump-map (opened m) n said S T f (inr stop) = inr (stop.0, f stopped stop.1)
 AnswersDump-map stopped n said S T f a = (a.0, f stopped a.1)
 
@@ -61,36 +43,22 @@ Run-map disk vault state (line ∷ lines) [] S T f run = absurd run
 
 -- ---- the state that they end in
 
-Step-end : (m : Machine) (c : Command) (r : Reply) (S : Machine → Type 0) → Step m c r S → (k : Machine) × S k × Step m c r (λ j. j ≡ k)
-Step-end m c r S step = by (refusal m c) refl
-  where
-    by : (o : Option Reply) → refusal m c ≡ o → (k : Machine) × S k × Step m c r (λ j. j ≡ k)
-    by None is = let h = rw is at step in (_, h.1, rw is (h.0, refl))
-    by (Some why) is = let h = rw is at step in (_, h.1, rw is (h.0, refl))
-
 AnswersOpen-end : (stops : Bool) (m : Machine) (c : Command) (r : Reply) (S : StoreState → Type 0) → AnswersOpen stops m c r S → (k : StoreState) × S k × AnswersOpen stops m c r (λ j. j ≡ k)
 AnswersOpen-end true m c r S a = (stopped, a.1, (a.0, refl))
 AnswersOpen-end false m c r S a =
-    let end = Step-end m c r (λ k. S (opened k)) a in
-    (opened end.0, end.1, Step-map m c r (λ j. j ≡ end.0) (λ j. opened j ≡ opened end.0) (λ j. ap opened) end.2)
+    let end = StepOrStop-end (λ k. S (opened k)) m c r a in
+    (opened end.0, end.1, StepOrStop-map (λ j. j ≡ end.0) (λ j. opened j ≡ opened end.0) (λ j. ap opened) m c r end.2)
 
 AnsweredOnce-end : (disk vault : ℕ) (state : StoreState) (c : Command) (r : Reply) (S : StoreState → Type 0) → AnsweredOnce disk vault state c r S → (k : StoreState) × S k × AnsweredOnce disk vault state c r (λ j. j ≡ k)
 AnsweredOnce-end disk vault (shut seal) c r S a = (_, a.1, (a.0, refl))
 AnsweredOnce-end disk vault (opened m) c r S a = AnswersOpen-end (says_stop r) m c r S a
 AnsweredOnce-end disk vault stopped c r S a = (stopped, a.1, (a.0, refl))
 
-DumpStep-end : (m : Machine) (n : NodeId) (said : List Reply) (S : Machine → Type 0) → DumpStep m n said S → (k : Machine) × S k × DumpStep m n said (λ j. j ≡ k)
-DumpStep-end m n said S step = by (refusal m (asks.Dump n)) refl
-  where
-    by : (o : Option Reply) → refusal m (asks.Dump n) ≡ o → (k : Machine) × S k × DumpStep m n said (λ j. j ≡ k)
-    by None is = let h = rw is at step in (_, h.1.after, rw is (h.0, record { hold = h.1.hold; taken = h.1.taken; after = refl }))
-    by (Some why) is = let h = rw is at step in (m, h.1, rw is (h.0, refl))
-
 AnswersDump-end : (state : StoreState) (n : NodeId) (said : List Reply) (S : StoreState → Type 0) → AnswersDump state n said S → (k : StoreState) × S k × AnswersDump state n said (λ j. j ≡ k)
 AnswersDump-end (shut seal) n said S a = (shut seal, a.1, (a.0, refl))
 AnswersDump-end (opened m) n said S (inl step) =
-    let end = DumpStep-end m n said (λ k. S (opened k)) step in
-    (opened end.0, end.1, inl (DumpStep-map m n said (λ j. j ≡ end.0) (λ j. opened j ≡ opened end.0) (λ j. ap opened) end.2))
+    let end = DumpOrStop-end (λ k. S (opened k)) m n said step in
+    (opened end.0, end.1, inl (DumpOrStop-map (λ j. j ≡ end.0) (λ j. opened j ≡ opened end.0) (λ j. ap opened) m n said end.2))
 AnswersDump-end (opened m) n said S (inr stop) = (stopped, stop.1, inr (stop.0, refl))
 AnswersDump-end stopped n said S a = (stopped, a.1, (a.0, refl))
 

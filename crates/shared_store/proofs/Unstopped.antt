@@ -1,4 +1,4 @@
--- A run in which the node doesn't stop.
+-- A run in which no node stops.
 use Rattle.std.proofs.Common.{◌≡◌, ◌∙◌, ℕ, Bool, true, false, List, [], ◌∷◌, ◌++◌, Option, Some, None, All, cond, inl, inr, refl, ap, subst, sym, arith}
 use Rattle.std.specs.Prelude.{⊤, map}
 use Rattle.std.specs.List.{count_by}
@@ -13,14 +13,14 @@ use Rattle.script_text.specs.declared.command.Command.TheVariants as asks
 use Rattle.script_text.specs.declared.reply.Reply.{Reply}
 use Rattle.script_text.specs.declared.reply.Reply.TheVariants as says
 use Rattle.record_machine.specs.Rows.{Row, dumped_by, row_reply}
-use Rattle.cluster_core.specs.Ports.{says_stop}
+use Rattle.store_nodes.specs.Ports.{says_stop}
 use Rattle.shared_store.specs.Causes.{AreCounted, StandStill, is_fault_of, is_stop_of}
 use Rattle.shared_store.specs.Devices.{Devices}
 use Rattle.shared_store.specs.StoreState.{Seal, StoreState, shut, opened, stopped, Answered, AnsweredOnce, AnswersDump, AnswersOpen, IsKnown, Run, after_format, after_shut}
 use Rattle.shared_store.specs.Transcript.{all_replies}
-use Rattle.shared_store.proofs.Running.{DumpStep-map, Step-map}
+use Rattle.shared_store.proofs.Stepping.{DumpOrStop-map, StepOrStop-map}
 
--- the reply doesn't say that the node stopped
+-- the reply doesn't say that a node stopped
 abbrev IsNoStop : Reply → Type 0
 IsNoStop r = says_stop r ≡ false
 
@@ -72,7 +72,7 @@ module _ (disk vault : ℕ) (S T : StoreState → Type 0) (f : (k : StoreState) 
     where
       by : (b : Bool) → says_stop r ≡ b → b ≡ false → AnswersOpen b m c r S → AnswersOpen b m c r T
       by true is on a = cc
-      by false is on a = Step-map m c r (λ k. S (opened k)) (λ k. T (opened k)) (λ k. f (opened k) tt) a
+      by false is on a = StepOrStop-map (λ k. S (opened k)) (λ k. T (opened k)) (λ k. f (opened k) tt) m c r a
   once_on stopped c r known on a = absurd known
 
   last_stops : (rows : List Row) (last : Reply) → All IsNoStop (map row_reply rows ++ last ∷ []) → IsNoStop last
@@ -81,7 +81,7 @@ module _ (disk vault : ℕ) (S T : StoreState → Type 0) (f : (k : StoreState) 
 
   dump_on : (state : StoreState) (n : NodeId) (said : List Reply) → IsKnown state → All IsNoStop said → AnswersDump state n said S → AnswersDump state n said T
   dump_on (shut seal) n said known on a = (a.0, f (shut seal) tt a.1)
-  dump_on (opened m) n said known on (inl step) = inl (DumpStep-map m n said (λ k. S (opened k)) (λ k. T (opened k)) (λ k. f (opened k) tt) step)
+  dump_on (opened m) n said known on (inl step) = inl (DumpOrStop-map (λ k. S (opened k)) (λ k. T (opened k)) (λ k. f (opened k) tt) m n said step)
   dump_on (opened m) n said known on (inr stop) =
       let goes : IsNoStop stop.0.last = last_stops stop.0.rows stop.0.last (subst (All IsNoStop) stop.0.said on) in
       let never : true ≡ false = sym stop.0.stops ∙ goes in cc

@@ -5,8 +5,8 @@ use Rattle.script_text.specs.declared.command.Command.{Command}
 use Rattle.script_text.specs.declared.reply.Reply.{Reply}
 use Rattle.script_text.specs.declared.reply.Reply.TheVariants as says
 use Rattle.record_machine.specs.Machine.{Machine}
-use Rattle.record_machine.specs.Rows.{RowStep}
-use Rattle.cluster_core.specs.Ports.{says_stop}
+use Rattle.record_machine.specs.Steps.{RowOrStop}
+use Rattle.store_nodes.specs.Ports.{says_stop}
 use Rattle.shared_store.specs.Causes.{AreCounted}
 use Rattle.shared_store.specs.Devices.{Devices}
 use Rattle.shared_store.specs.Output.{IsPart}
@@ -20,7 +20,7 @@ use Rattle.shared_store.specs.declared.store.Store.{Store}
 -- from this machine the next record, from a key on, may be answered so where it is asked for
 abbrev pub NextOpen : Bool → Machine → NodeId → ℕ → Reply → (StoreState → Type 0) → Type 0
 NextOpen true m n first reply S = S stopped
-NextOpen false m n first reply S = RowStep m n first reply (λ next. S (opened next))
+NextOpen false m n first reply S = RowOrStop m n first reply (λ next. S (opened next))
 
 -- and from this state of a store, which goes on to a state of S
 abbrev pub NextAnswered : StoreState → NodeId → ℕ → Reply → (StoreState → Type 0) → Type 0

@@ -1,14 +1,14 @@
--- Why a node stops, and how often it may.
+-- Why a node stops, and how often nodes may.
 use Rattle.std.specs.Prelude.{◌≡◌, ◌⊎◌, ◌==◌, ◌+◌, ◌-◌, ◌≤◌, ◌<◌, ◌^◌, ⊤, ℕ, Bool, false, List, count_by}
 use Rattle.sd_base.specs.Disk.{Rose}
 use Rattle.script_text.specs.declared.reply.Reply.{Reply}
 use Rattle.script_text.specs.declared.reply.Reply.TheVariants as says
 use Rattle.shared_store.specs.Devices.{Devices}
 
--- a stop or a fault is answered for node 1, and only where that count of its port rose at a device
+-- a stop or a fault of a node is answered only where that count of its port rose at a device
 abbrev pub HasCause : Reply → Devices → Devices → Type 0
-HasCause (says.Stopped n) old new = (n.0 ≡ 1) × (Rose (old.disk.cuts 1) (new.disk.cuts 1) ⊎ Rose (old.vault.cuts 1) (new.vault.cuts 1))
-HasCause (says.Fault n) old new = (n.0 ≡ 1) × (Rose (old.disk.faults 1) (new.disk.faults 1) ⊎ Rose (old.vault.faults 1) (new.vault.faults 1))
+HasCause (says.Stopped n) old new = Rose (old.disk.cuts n.0) (new.disk.cuts n.0) ⊎ Rose (old.vault.cuts n.0) (new.vault.cuts n.0)
+HasCause (says.Fault n) old new = Rose (old.disk.faults n.0) (new.disk.faults n.0) ⊎ Rose (old.vault.faults n.0) (new.vault.faults n.0)
 HasCause reply old new = ⊤
 
 -- the reply says that this node was stopped, or that a device call of it failed

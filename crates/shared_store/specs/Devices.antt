@@ -1,10 +1,11 @@
 -- The two devices of a store, and what a command leaves of them, whatever it answers.
-use Rattle.std.specs.Prelude.{◌≡◌, ℕ, true}
+use Rattle.std.specs.Prelude.{◌≡◌, ℕ, List, true}
 use Rattle.std.proofs.Common.{◌∙◌, refl}
 use Rattle.sd_base.specs.Disk.{DiskState, IsPort}
-use Rattle.sd_base.specs.Calls.{Keeps}
-use Rattle.sd_base.specs.Faults.{Grew, Grew-keeps, Grew-same, Grew-then}
-use Rattle.cluster_core.specs.Device.{TakesOver}
+use Rattle.sd_base.specs.Faults.{Grew, Grew-same, Grew-then}
+use Rattle.store_format.specs.Device.{TakesOver}
+use Rattle.store_nodes.specs.declared.node.Node.{Node}
+use Rattle.store_nodes.specs.Ports as nodes
 
 -- A disk and a vault.
 pub record Devices : Type 0 where
@@ -30,9 +31,9 @@ GoesOn-same a = record { size = refl; orders = refl; grew = Grew-same a }
 pub GoesOn-then : (a b c : DiskState) → GoesOn a b → GoesOn b c → GoesOn a c
 GoesOn-then a b c p q = record { size = q.size ∙ p.size; orders = q.orders ∙ p.orders; grew = Grew-then a b c p.grew q.grew }
 
--- after the calls of a port, and after all ports were stopped
-pub GoesOn-keeps : (n : ℕ) (a b : DiskState) → Keeps n a b → GoesOn a b
-GoesOn-keeps n a b k = record { size = k.size; orders = k.orders; grew = Grew-keeps n a b k }
+-- after a call of a store, and after all ports were stopped
+pub GoesOn-keeps : (n : ℕ) (up : List Node) (a b : DiskState) → nodes.KeepsPorts n up a b → GoesOn a b
+GoesOn-keeps n up a b k = record { size = k.size; orders = k.orders; grew = k.grew }
 
 pub GoesOn-takes : (a b : DiskState) → TakesOver a b → GoesOn a b
 GoesOn-takes a b t = record { size = t.size; orders = t.orders; grew = t.grew }

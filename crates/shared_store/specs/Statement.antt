@@ -63,7 +63,7 @@ pub record TellsRun (status : Status) (from : Beginning) (source left : SourceSt
   pub lines : List (List ℕ)
   pub executed : AreExecuted status bytes lines
   -- Each of them that isn't a comment was answered with these replies, by a run of the store: each step is one of the record
-  -- machine, until a reply says that the node stopped. It ends in a state of S.
+  -- machine, until a reply says that a node stopped. It ends in a state of S.
   pub replies : List (List Reply)
   pub run : RunFrom from (answered lines) replies S
   -- The sink took the replies, and nothing else.

@@ -5,26 +5,26 @@ use Rattle.script_text.specs.declared.command.Command.{Command}
 use Rattle.script_text.specs.declared.command.Command.TheVariants as asks
 use Rattle.script_text.specs.declared.reply.Reply.{Reply}
 use Rattle.record_machine.specs.Machine.{Machine}
-use Rattle.cluster_core.specs.Cluster.{ClusterState}
-use Rattle.cluster_core.specs.Device.{ComesToRest}
-use Rattle.cluster_core.specs.Known.{known}
-use Rattle.cluster_core.specs.Ports as cluster
-use Rattle.cluster_core.specs.Refusal.{MayHaveSuper, MustHaveSuper}
-use Rattle.cluster_core.specs.Shows.{IsShown}
+use Rattle.store_format.specs.Device.{ComesToRest}
+use Rattle.store_format.specs.Refusal.{MayHaveSuper, MustHaveSuper}
+use Rattle.store_nodes.specs.declared.store.Store as nodes
+use Rattle.store_nodes.specs.Known.{known}
+use Rattle.store_nodes.specs.Ports.{IsQuiet, IsReady}
+use Rattle.store_nodes.specs.Shows.{IsShown}
 use Rattle.shared_store.specs.Devices.{OpensNoPort}
 use Rattle.shared_store.specs.StoreState.{Seal, Sealed, Blank, Unsure, StoreState, shut, opened, stopped}
 use Rattle.shared_store.specs.declared.store.Store.{Store}
 use Rattle.shared_store.specs.declared.store.Store.TheVariants.{Closed, Open}
 
--- an open store's devices have its blocks, and the ports of a node that is up may be used
+-- an open store is whole, and its devices serve it: they have its blocks, and the ports of its nodes that are up
 abbrev pub CanServe : Store → DiskState → DiskState → Type 0
 CanServe Closed disk vault = ⊤
-CanServe (Open c) disk vault = cluster.IsServed c disk vault
+CanServe (Open c) disk vault = IsReady c disk vault
 
--- an open store has an uncovered write to no page, and no other port has one
+-- each uncovered write of an open store's disk is one of a node that is up, to its own log
 abbrev pub IsQuietStore : Store → (ℕ → BlockState) → Type 0
 IsQuietStore Closed b = ⊤
-IsQuietStore (Open c) b = cluster.IsQuiet c b
+IsQuietStore (Open c) b = IsQuiet c b
 
 -- the command is answered without a device: with no store open each one but a `format`, and with one what is refused for
 -- what is in memory
@@ -55,9 +55,9 @@ Shows (Open c) d stopped = ⊤
 
 -- The blocks of a disk whose store was open until all its ports were stopped: then it showed this machine.
 pub record IsClosedAt (m : Machine) (b : ℕ → BlockState) : Type 0 where
-  pub cluster : ClusterState
+  pub store : nodes.Store
   pub before : ℕ → BlockState
-  pub shown : IsShown cluster before m
+  pub shown : IsShown store before m
   pub rest : ComesToRest before b
 
 -- what a run leaves on the disk that ends in this state

@@ -8,10 +8,10 @@ use Rattle.script_text.specs.declared.command.Command.{Command}
 use Rattle.script_text.specs.declared.command.Command.TheVariants as asks
 use Rattle.script_text.specs.declared.reply.Reply.{Reply}
 use Rattle.script_text.specs.declared.reply.Reply.TheVariants as says
-use Rattle.record_machine.specs.Commands.{Step}
 use Rattle.record_machine.specs.Machine.{Machine, formatted}
-use Rattle.record_machine.specs.Rows.{AreRows, DumpStep, Row, dumped_by, row_reply}
-use Rattle.cluster_core.specs.Ports.{says_stop}
+use Rattle.record_machine.specs.Rows.{AreRows, Row, dumped_by, row_reply}
+use Rattle.record_machine.specs.Steps.{DumpOrStop, StepOrStop}
+use Rattle.store_nodes.specs.Ports.{says_stop}
 
 -- What is known of block 0 of the disk while no store is open: it is a disk super, or none, or nobody can say.
 pub data Seal : Type 0 where
@@ -19,13 +19,13 @@ pub data Seal : Type 0 where
   Blank : Seal
   Unsure : Seal
 
--- The state: no store is open; or one is, and is this machine; or one is of which nothing is known, since its node stopped.
+-- The state: no store is open; or one is, and is this machine; or one is of which nothing is known, since a node of it stopped.
 pub data StoreState : Type 0 where
   shut : Seal → StoreState
   opened : Machine → StoreState
   stopped : StoreState
 
--- it is known what the store is: its node hasn't stopped
+-- it is known what the store is: no node of it has stopped
 abbrev pub IsKnown : StoreState → Type 0
 IsKnown (shut seal) = ⊤
 IsKnown (opened m) = ⊤
@@ -44,7 +44,7 @@ AnswersFormat disk vault seal s (says.Stopped n) = n.0 ≡ 1
 AnswersFormat disk vault seal s (says.Fault n) = n.0 ≡ 1
 AnswersFormat disk vault seal s reply = ⊥
 
--- what is known of block 0 after a `format` in which the node stopped
+-- what is known of block 0 after a `format` in which its port stopped
 abbrev pub after_cut : Seal → Seal
 after_cut Sealed = Sealed
 after_cut Blank = Unsure
@@ -81,7 +81,7 @@ after_shut seal command reply = shut seal
 
 -- ---- a store is open
 
--- the commands in which the node may stop: those that may call a device
+-- the commands in which a node may stop: those that may call a device
 abbrev pub MayStop : Command → Type 0
 MayStop (asks.Start n) = ⊤
 MayStop (asks.Begin t) = ⊤
@@ -94,12 +94,12 @@ MayStop (asks.Abort t) = ⊤
 MayStop (asks.Flush n) = ⊤
 MayStop command = ⊥
 
--- what a command may be answered, with the states after it: where the node didn't stop, what the machine answers
+-- what a command may be answered, with the states after it: where no node stopped, what the machine answers
 abbrev pub AnswersOpen : Bool → Machine → Command → Reply → (StoreState → Type 0) → Type 0
 AnswersOpen true m command reply S = MayStop command × S stopped
-AnswersOpen false m command reply S = Step m command reply (λ next. S (opened next))
+AnswersOpen false m command reply S = StepOrStop m command reply (λ next. S (opened next))
 
--- once the node has stopped, the commands that get one reply and ask it for nothing are answered as before, and nothing is
+-- once a node has stopped, the commands that get one reply and ask no node for anything are answered as before, and nothing is
 -- said of the others
 abbrev pub AnswersStopped : Command → Reply → Type 0
 AnswersStopped (asks.Format s) reply = reply ≡ says.Formatted
@@ -124,7 +124,7 @@ AnsweredOnce disk vault (shut seal) command reply S = AnswersShut disk vault sea
 AnsweredOnce disk vault (opened m) command reply S = AnswersOpen (says_stop reply) m command reply S
 AnsweredOnce disk vault stopped command reply S = AnswersStopped command reply × S stopped
 
--- In a dump the node stopped, behind some of the rows.
+-- In a dump a node stopped, behind some of the rows.
 pub record StopsDump (m : Machine) (replies : List Reply) : Type 0 where
   pub end : ℕ
   pub rows : List Row
@@ -137,11 +137,11 @@ pub record StopsDump (m : Machine) (replies : List Reply) : Type 0 where
 abbrev pub AreDumped : List Reply → Type 0
 AreDumped replies = (rows : List Row) × (last : Reply) × (replies ≡ map row_reply rows ++ last ∷ [])
 
--- From this state a dump may be answered with these replies, and the store go on to a state of S: where the node didn't
--- stop, with what the machine answers. Once it has stopped nothing is said of the rows.
+-- From this state a dump may be answered with these replies, and the store go on to a state of S: where no node stopped,
+-- with what the machine answers. Once one has stopped nothing is said of the rows.
 abbrev pub AnswersDump : StoreState → NodeId → List Reply → (StoreState → Type 0) → Type 0
 AnswersDump (shut seal) n replies S = (replies ≡ says.Closed ∷ []) × S (shut seal)
-AnswersDump (opened m) n replies S = DumpStep m n replies (λ next. S (opened next)) ⊎ (StopsDump m replies × S stopped)
+AnswersDump (opened m) n replies S = DumpOrStop m n replies (λ next. S (opened next)) ⊎ (StopsDump m replies × S stopped)
 AnswersDump stopped n replies S = AreDumped replies × S stopped
 
 -- from this state the command may be answered with these replies, and the store go on to a state of S

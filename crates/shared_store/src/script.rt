@@ -136,6 +136,7 @@ fn read_script<S: Source, K: Sink, D: Arm, V: Arm>(
     requires ready { CanServe session.old.store (D.state disk.old) (V.state vault.old) }
     requires quiet { IsTrue D.told → IsQuietStore session.old.store (D.state disk.old).block }
     ensures usage { result ≢ Status.Usage }
+    ensures ready { CanServe session.new.store (D.state disk.new) (V.state vault.new) }
     ensures disk { GoesOn (D.state disk.old) (D.state disk.new) }
     ensures vault { GoesOn (V.state vault.old) (V.state vault.new) }
     ensures ports { (first : DiskState) → KeepsPorts session.old.store first (D.state disk.old) → KeepsPorts session.new.store first (D.state disk.new) }

@@ -138,7 +138,6 @@ impl Store {
         shape: Shape,
     ) -> Reply
         requires shape { IsShape shape }
-        requires one { shape.nodes ≡ 1 }
         requires closed { self.old ≡ Store.Closed }
         ensures ready { CanServe self.new (D.state disk.new) (V.state vault.new) }
         ensures quiet { IsTrue D.told → IsQuietStore self.new (D.state disk.new).block }
@@ -173,6 +172,7 @@ impl Store {
 
     /// Ends the store that is open, if one is: all ports of both devices stop.
     pub(crate) fn close<D: Arm, V: Arm>(self, disk: &mut D, vault: &mut V)
+        requires ready { CanServe self (D.state disk.old) (V.state vault.old) }
         ensures disk { GoesOn (D.state disk.old) (D.state disk.new) }
         ensures vault { GoesOn (V.state vault.old) (V.state vault.new) }
         ensures ports { (first : DiskState) → KeepsPorts self first (D.state disk.old) → OpensNoPort first (D.state disk.new) }

@@ -1,16 +1,16 @@
 //! Formats of devices in memory that were used: the text of each block, and what a stop at each call leaves.
 ghost use Rattle.std.specs.Prelude.{IsTrue};
 ghost use Rattle.sd_base.specs.Shape.{IsShape};
-ghost use Rattle.cluster_core.specs.Device.{IsAllCovered};
+ghost use Rattle.store_format.specs.Device.{IsAllCovered};
 
 use crate::CutDisk;
-use cluster_core::{may_format, write_store};
 use disk_model::{Fused, MemDisk};
 use script_text::Reply;
 use sd_base::{Arm, Block, BlockNo, Disk, NodeId, ReadAnswer, Shape};
 use std::alloc::{AllocError, Global};
 use std::process::Abort;
 use std::test::Fail;
+use store_format::{may_format, write_store};
 
 const NODE: NodeId = NodeId(1);
 

@@ -1,5 +1,5 @@
 use Rattle.std.proofs.Common.{◌≡◌, IsTrue}
-use Rattle.cluster_core.specs.Device.{IsFreeForOne}
+use Rattle.store_format.specs.Device.{IsFreeForOne}
 use Rattle.store_trials.proofs.format_tests.use_up.Given as goal
 
 abbrev pub invariant-loop-at : goal.invariant-loop-at
