@@ -1,3 +1,10 @@
 pub mod Images
 pub mod StepFacts
 pub mod Changes
+pub mod CopyLaws
+pub mod Lending
+pub mod PageCalls
+pub mod Departures
+pub mod Arrivals
+pub mod PageKinds
+pub mod NotedCopies

@@ -1,3 +1,5 @@
 pub mod Redoing
 pub mod Records
 pub mod Steps
+pub mod Copies
+pub mod Pages

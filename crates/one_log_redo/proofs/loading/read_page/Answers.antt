@@ -1,14 +1,8 @@
-use Rattle.std.specs.Prelude.{Result, Ok, Err, IfErr}
-use Rattle.std.specs.Result.{IsErrAnd}
 use Rattle.std.proofs.Common.{subst, sym}
 use Rattle.sd_base.specs.Faults.{IsStopOf}
 use Rattle.state_ids.proofs.PageLaws.{Shows-read}
+use Rattle.one_log_redo.proofs.PageCalls.{passed_on}
 use Rattle.one_log_redo.proofs.loading.read_page.Goals as goal
-
--- what holds of a fault that is passed on
-passed_on : {T E : Type 0} (r : Result T E) (P Q : E → Type 0) → IsErrAnd r P → ((why : E) → P why → Q why) → IfErr r Q
-passed_on (Ok x) P Q is then = tt
-passed_on (Err why) P Q is then = then why is
 
 pub returns-in_err-read_image-clause-there : goal.returns-in_err-read_image-clause-there
 returns-in_err-read_image-clause-there g c = λ t image h.
