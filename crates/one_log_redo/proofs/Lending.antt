@@ -186,11 +186,3 @@ among frames (suc n) f = elim (cases_eq f (frame_of frames n)) [
     ])
   ]
 ]
-
--- frames that have come out, were written and have gone back leave the pool as it was
-pub pool_again : (frames : List (Option ℕ)) (count : ℕ) (first taken last again : List (Option (List ℕ))) → TakesFrames frames count first taken → KeepsOthers frames count taken last → length again ≡ length last
-    → ((k : ℕ) → k < count → frame_at again (frame_of frames k) ≡ None) → ((f : ℕ) → IsElsewhere frames count f → frame_at again f ≡ frame_at last f) → (f : ℕ) → frame_at again f ≡ frame_at first f
-pool_again frames count first taken last again t kept size free others f = elim (among frames count f) [
-  | inl w ↦ ap (frame_at again) w.2 ∙ free w.0 w.1 ∙ sym (t.free w.0 w.1) ∙ ap (frame_at first) (sym w.2)
-  | inr far ↦ others f far ∙ kept.others f far ∙ t.kept.others f far
-]

@@ -1,14 +1,12 @@
 -- What calls that read and write pages alone leave of the blocks of a device.
 use Rattle.std.specs.Prelude.{◌≡◌, ◌≢◌, ◌⊎◌, ◌<◌, ℕ, Bool, true, List, Option, Some, None, IsTrue}
-use Rattle.sd_base.specs.Disk.{BlockState, DiskState, IsFreeFor, IsPort, MayHold}
+use Rattle.sd_base.specs.Disk.{BlockState, DiskState, IsPort, MayHold}
 use Rattle.sd_base.specs.Calls.{Keeps}
 use Rattle.sd_base.specs.Shape.{IsShape, page_count}
-use Rattle.sd_base.specs.Places.{map_of_page}
-use Rattle.sd_base.specs.declared.fault.DevFault.{DevFault}
 use Rattle.sd_base.specs.declared.names.PageNo.{PageNo}
 use Rattle.sd_base.specs.declared.shape.Shape.{Shape}
 use Rattle.state_ids.specs.PageImage.{PageImage}
-use Rattle.state_ids.specs.Blocks.{HoldsPage, IsPageFault, IsToldOfPage, page_place}
+use Rattle.state_ids.specs.Blocks.{HoldsPage, page_place}
 
 -- the block of each page may be named
 abbrev pub AreInReach : Shape → (ℕ → Bool) → Type 0
@@ -17,10 +15,6 @@ AreInReach s reach = (x : PageNo) → x.0 < page_count s → reach (page_place s
 -- no page's block has an uncovered write
 abbrev pub AreStill : Shape → (ℕ → BlockState) → Type 0
 AreStill s b = (x : PageNo) → x.0 < page_count s → (b (page_place s x)).writer ≡ None
-
--- no page's block has an uncovered write of another port
-abbrev pub AreFree : Shape → ℕ → (ℕ → BlockState) → Type 0
-AreFree s n b = (x : PageNo) → x.0 < page_count s → IsFreeFor n (b (page_place s x))
 
 -- the block of no page of the store
 abbrev pub IsBeside : Shape → ℕ → Type 0
@@ -48,15 +42,3 @@ pub record IsReady (told : Bool) (s : Shape) (n : ℕ) (d : DiskState) : Type 0 
   pub live : d.live n ≡ true
   pub reach : AreInReach s d.reach
   pub still : IsTrue told → AreStill s d.block
-
--- the page y is the page x or its map page
-abbrev pub IsPageFor : Shape → PageNo → PageNo → Type 0
-IsPageFor s x y = (y ≡ x) ⊎ (y ≡ map_of_page s x)
-
--- why a page with its map page isn't there: the port stopped or failed, or the block of one of them is lost or damaged
-abbrev pub IsFaultFor : Shape → PageNo → ℕ → DevFault → Type 0
-IsFaultFor s x n fault = (y : PageNo) × IsPageFor s x y × IsPageFault s y n fault
-
--- of one of them, a block that is said to be lost is, and one that is said to be damaged is no image of the page
-abbrev pub IsToldFor : Shape → PageNo → ℕ → (ℕ → BlockState) → DevFault → Type 0
-IsToldFor s x n b fault = (y : PageNo) × IsPageFor s x y × IsPageFault s y n fault × IsToldOfPage s y (b (page_place s y)).current fault
