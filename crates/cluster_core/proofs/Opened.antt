@@ -39,7 +39,7 @@ use Rattle.store_nodes.specs.Shows.{IsOnDisk, ShowsIdle, ShowsNode, ShowsStore, 
 use Rattle.store_nodes.proofs.Eight.{apart_none}
 use Rattle.store_nodes.proofs.Halts.{all_nobody}
 use Rattle.store_nodes.proofs.Living.{living}
-use Rattle.store_nodes.proofs.Takes.{but_of}
+use Rattle.store_pages.proofs.Takes.{but_of}
 
 -- each of the eight is idle
 abbrev eight : List Node

@@ -10,7 +10,7 @@ use Rattle.store_nodes.specs.declared.store.Store.{Store}
 use Rattle.store_nodes.specs.Nodes.{IsPlace, node_at}
 use Rattle.store_nodes.specs.Pages.{KeepsWork}
 use Rattle.store_nodes.specs.Ports.{IsQuiet, IsStopReply, SaysStopOf, StaysOrStops, WorksWith, WritesWith}
-use Rattle.store_nodes.proofs.WorksWith.{seats_same}
+use Rattle.store_pages.proofs.WorksWith.{seats_same}
 
 stays_says : (P Q : Type 0) (a b : Node) → (P → Q) → StaysOrStops P a b → StaysOrStops Q a b
 stays_says P Q Idle b then stays = stays

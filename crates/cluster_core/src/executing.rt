@@ -75,7 +75,7 @@ fn execute<D: Arm, V: Arm>(
         Command::Del(t, key) => reply_deleted(delete(store, disk, vault, t, key)),
         Command::Commit(t) => reply_of(store.end(disk, vault, t, Ending::Commit)),
         Command::Abort(t) => reply_of(abort(store, disk, vault, t)),
-        Command::Flush(n) => reply_flushed(store.flush(disk, vault, n)),
+        Command::Flush(n) => reply_flushed(flush(store, disk, vault, n)),
         Command::Stat(n) => store.stat(n),
         Command::Format(_) | Command::Bad | Command::Dump(_) => unreachable!(),
     }

@@ -16,7 +16,7 @@ use Rattle.store_nodes.specs.Causes.{IsFaultOfPage, IsFaultOfTake, IsLogReply, I
 use Rattle.store_nodes.specs.Known.{held_in}
 use Rattle.store_nodes.specs.Nodes.{IsStore}
 use Rattle.store_nodes.specs.Ports.{IsStopReply, IsWorker}
-use Rattle.store_nodes.specs.Updates.{HasNoRoomFor}
+use Rattle.store_pages.specs.Updates.{HasNoRoomFor}
 use Rattle.store_commands.specs.Aborts.{IsAbortFault, IsToldOfAbort}
 use Rattle.store_commands.proofs.With.{held_page_is, worker}
 

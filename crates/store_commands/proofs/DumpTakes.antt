@@ -21,7 +21,7 @@ use Rattle.store_nodes.specs.Known.{held_in}
 use Rattle.store_nodes.specs.Nodes.{IsStore, is_up, node_at}
 use Rattle.store_nodes.specs.Pages.{KeepsWork}
 use Rattle.store_nodes.specs.Ports.{HasCause, IsQuiet, IsReady, IsStopReply, IsWorker, SaysStopOf, UnlessStop, WorksWith, WritesWith}
-use Rattle.store_nodes.proofs.WorksWith.{seats_same, works_same}
+use Rattle.store_pages.proofs.WorksWith.{seats_same, works_same}
 use Rattle.store_commands.specs.Dumps.{IsDumpFault, TakesOf}
 use Rattle.store_commands.specs.Faults.{IsFaultFor}
 use Rattle.store_commands.specs.Reasons.{IsPageFor}

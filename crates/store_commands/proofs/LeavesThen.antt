@@ -16,7 +16,7 @@ use Rattle.store_nodes.specs.Known.{held_in}
 use Rattle.store_nodes.specs.Nodes.{is_up, node_at}
 use Rattle.store_nodes.specs.Pages.{KeepsWork}
 use Rattle.store_nodes.specs.Ports.{HasCause, IsQuiet, IsReady, IsStopReply, IsWorker, SaysStopOf, UnlessStop, Works, WorksWith, Writes, says_stop}
-use Rattle.store_nodes.proofs.WorksWith.{seats_same}
+use Rattle.store_pages.proofs.WorksWith.{seats_same}
 use Rattle.store_commands.specs.Aborts.{IsAbortFault, Leaves}
 use Rattle.store_commands.specs.Taking.{UnlessHeld}
 use Rattle.store_commands.proofs.AbortCauses.{fault_earlier}

@@ -17,8 +17,8 @@ use Rattle.store_nodes.specs.declared.store.Store.{Store}
 use Rattle.store_nodes.specs.Nodes.{IsNode, IsPlace, IsStore, OnUp, is_up, node_at}
 use Rattle.store_nodes.specs.Pages.{has_txn}
 use Rattle.store_nodes.specs.Shows.{IsShown, ShowsNode, ShowsUp}
-use Rattle.store_nodes.specs.Updates.{IsLeftAfter, IsNextAfter, IsNumberOf}
-use Rattle.store_nodes.proofs.FoundWrites as found
+use Rattle.store_pages.specs.Updates.{IsLeftAfter, IsNextAfter, IsNumberOf}
+use Rattle.store_pages.proofs.FoundWrites as found
 use Rattle.store_nodes.proofs.LeftWrites as left
 use Rattle.store_nodes.proofs.LeftWrites.{back_parts, numbers_back}
 

@@ -27,7 +27,7 @@ use Rattle.store_commands.specs.Faults.{IsFaultFor, IsWriteReason}
 use Rattle.store_commands.specs.Reasons.{IsPageFor}
 use Rattle.store_commands.proofs.ShownLocks.{with_locks}
 -- a call of the node alone is one in which no other works, and two calls are one
-pub use Rattle.store_nodes.proofs.WorksWith.{work_then, works_with as works_alone, works_with_then as works_then, worker_earlier as worker_before, writes_with as writes_alone}
+pub use Rattle.store_pages.proofs.WorksWith.{work_then, works_with as works_alone, works_with_then as works_then, worker_earlier as worker_before, writes_with as writes_alone}
 
 abbrev pub NoStop : ℕ → Type 0
 NoStop m = ⊥

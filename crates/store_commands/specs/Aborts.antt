@@ -21,7 +21,7 @@ use Rattle.store_nodes.specs.Known.{held_in}
 use Rattle.store_nodes.specs.Nodes.{is_up, node_at}
 use Rattle.store_nodes.specs.Pages.{has_txn}
 use Rattle.store_nodes.specs.Ports.{HasCause, IsStopReply, IsWorker, SaysStopOf, UnlessStop, WorksWith, WritesWith}
-use Rattle.store_nodes.specs.Updates.{HasNoRoomFor}
+use Rattle.store_pages.specs.Updates.{HasNoRoomFor}
 
 -- ---- why it isn't done
 

@@ -44,10 +44,10 @@ fn take_anew<D: Disk, V: Disk>(
     ensures step { IsTrue D.told → (m : Machine) → IsShown store.old (D.state disk.old).block m
         → UnlessStop result (UnlessHeld m (Take x.0 n.0 ∷ []) result (IsShown store.new (D.state disk.new).block) ((IsOk result) × IsShown store.new (D.state disk.new).block (one (Take x.0 n.0) m))) }
 {
-    let again = store.is_clean(n, x);
-    store.take(disk, vault, n, x, e)?;
+    let again = is_clean(store, n, x);
+    take(store, disk, vault, n, x, e)?;
     if again {
-        store.reread(disk, vault, n, x)
+        reread(store, disk, vault, n, x)
     } else {
         Ok(())
     }
@@ -77,7 +77,7 @@ pub(crate) fn take_update<D: Disk, V: Disk>(
 {
     let map = store.shape.map_of_data(x);
     take_anew(store, disk, vault, n, map, None)?;
-    let entry = store.entry_at(n, map, store.shape.place_of_page(x));
+    let entry = entry_at(store, n, map, store.shape.place_of_page(x));
     take_anew(store, disk, vault, n, x, Some(entry))
 }
 
@@ -103,7 +103,7 @@ pub(crate) fn take_if_gone<D: Disk, V: Disk>(
     ensures shows { OnOk result (IsTrue D.told → (m : Machine) → HoldsBoth m n.0 x → IsShown store.old (D.state disk.old).block m → IsShown store.new (D.state disk.new).block m) }
     ensures stopped { IfErr result (λ why. IsTrue D.told → (m : Machine) → HoldsBoth m n.0 x → IsShown store.old (D.state disk.old).block m → says_stop why ≡ true) }
 {
-    if store.has_page(n, x) {
+    if has_page(store, n, x) {
         return Ok(());
     }
     take_update(store, disk, vault, n, x)

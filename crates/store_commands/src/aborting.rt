@@ -47,7 +47,7 @@ fn take_with_room<D: Disk, V: Disk>(
         → UnlessStop result (UnlessHeld m (takes_page store.old.shape t.node.0 x) result (IsShown store.new (D.state disk.new).block) ((IsOk result) × IsShown store.new (D.state disk.new).block (dos (takes_page store.old.shape t.node.0 x) m))) }
 {
     take_update(store, disk, vault, t.node, x)?;
-    store.test_room(disk, vault, t, x)
+    test_room(store, disk, vault, t, x)
 }
 
 /// Takes the pages of all updates that are left of a transaction, the newest first, so that each is known to
@@ -72,7 +72,7 @@ fn take_updates<D: Disk, V: Disk>(
         → UnlessStop result (UnlessHeld m (takes_back m t) result (IsShown store.new (D.state disk.new).block) ((IsOk result) × IsShown store.new (D.state disk.new).block (dos (takes_back m t) m))) }
 {
     let mut after = None;
-    while let Some((number, x)) = store.update_after(disk, vault, t, after)? {
+    while let Some((number, x)) = update_after(store, disk, vault, t, after)? {
         take_with_room(store, disk, vault, t, x)?;
         after = Some(number);
     }
@@ -107,7 +107,7 @@ fn take_back_on<D: Disk, V: Disk>(
         → IsShown store.old (D.state disk.old).block m → says_stop why ≡ true) }
 {
     take_if_gone(store, disk, vault, t.node, x)?;
-    store.test_room(disk, vault, t, x)?;
+    test_room(store, disk, vault, t, x)?;
     store.take_back_one(disk, vault, t)
 }
 
@@ -132,7 +132,7 @@ fn take_back_updates<D: Disk, V: Disk>(
     ensures shows { OnOk result (IsTrue D.told → (m : Machine) → HoldsWritten m t → IsShown store.old (D.state disk.old).block m → IsShown store.new (D.state disk.new).block (dos (backs m t) m)) }
     ensures stopped { IfErr result (λ why. IsTrue D.told → (m : Machine) → HoldsWritten m t → IsShown store.old (D.state disk.old).block m → says_stop why ≡ true) }
 {
-    while let Some((_, x)) = store.update_after(disk, vault, t, None)? {
+    while let Some((_, x)) = update_after(store, disk, vault, t, None)? {
         take_back_on(store, disk, vault, t, x)?;
     }
     Ok(())

@@ -78,8 +78,8 @@ fn find_group<D: Disk, V: Disk>(
 {
     let mut least = GROUPS;
     for x in 0..store.shape.maps {
-        store.take(disk, vault, n, PageNo(x), None)?;
-        least = store.next_group(n, PageNo(x), first, least);
+        take(store, disk, vault, n, PageNo(x), None)?;
+        least = next_group(store, n, PageNo(x), first, least);
     }
     Ok(least)
 }
@@ -99,7 +99,7 @@ fn next_in_page(store: &Store, n: NodeId, x: PageNo, first: Key) -> Option<Row>
     let end = GroupNo(first.group().0 + 1).first_key();
     for k in u64::from(first.0)..end {
         let key = Key(k as u32);
-        if let Some(value) = store.slot_of(n, x, key.slot()) {
+        if let Some(value) = slot_of(store, n, x, key.slot()) {
             return Some(Row { key, value });
         }
     }

@@ -41,7 +41,7 @@ pub fn record_in(store: &Store, n: NodeId, home: Option<PageNo>, key: Key) -> Op
     ensures there { IfSome home (λ x. (v : PageView) × ShowsData store.now n.0 x v) }
 {
     match home {
-        Some(x) => store.slot_of(n, x, key.slot()),
+        Some(x) => slot_of(store, n, x, key.slot()),
         None => None,
     }
 }

@@ -64,8 +64,8 @@ pub(crate) fn take_data<D: Disk, V: Disk>(
     ensures hit { HasPlace store.old n.0 map.0 place → (IsOk result) × (store.new ≡ store.old) × (disk.new ≡ disk.old) × (vault.new ≡ vault.old) }
 {
     let x = store.shape.data_page(map, place);
-    let entry = store.entry_at(n, map, place);
-    store.take(disk, vault, n, x, Some(entry))?;
+    let entry = entry_at(store, n, map, place);
+    take(store, disk, vault, n, x, Some(entry))?;
     Ok(x)
 }
 
@@ -107,8 +107,8 @@ pub fn take_group<D: Disk, V: Disk>(
         → (IsOk result) × (store.new ≡ store.old) × (disk.new ≡ disk.old) × (vault.new ≡ vault.old) }
 {
     let map = store.shape.map_of_key(key);
-    store.take(disk, vault, n, map, None)?;
-    match store.place_of_group(n, map, key.group()) {
+    take(store, disk, vault, n, map, None)?;
+    match place_of_group(store, n, map, key.group()) {
         Some(place) => {
             let x = take_data(store, disk, vault, n, map, place)?;
             Ok(Some(x))

@@ -66,7 +66,7 @@ fn check_length(store: &Store, n: NodeId, x: PageNo, slot: u8, what: &Change) ->
 {
     match what {
         Change::Append(bytes) => {
-            let len = length_of(store.slot_of(n, x, slot)) + bytes.as_slice().len();
+            let len = length_of(slot_of(store, n, x, slot)) + bytes.as_slice().len();
             if len > Value::MAX_LEN {
                 return Err(Reply::TooLong(len as u32));
             }
@@ -94,7 +94,7 @@ fn check_change(
     ensures tests { (v : PageView) → ShowsData store.now n.0 x v → result ≡ checked (first_of (where_so (nat_le (2 ^ 63) v.ident) (says.Limit x) ∷ length_refusal what.now (content v (slot_of_key key.0)) ∷ no_room store.now n need ∷ [])) }
     ensures there { (v : PageView) × ShowsData store.now n.0 x v }
 {
-    if store.data_ident(n, x) >= IDENT_LIMIT {
+    if data_ident(store, n, x) >= IDENT_LIMIT {
         return Err(Reply::Limit(x));
     }
     check_length(store, n, x, key.slot(), what)?;
@@ -111,7 +111,7 @@ fn check_map(store: &Store, n: NodeId, map: PageNo) -> Result<(), Reply>
     ensures tests { (image : MapImage) → ShowsMap store.now n.0 map image → result ≡ checked (where_so (nat_le (2 ^ 63) image.ident) (says.Limit map)) }
     ensures there { (image : MapImage) × ShowsMap store.now n.0 map image }
 {
-    if store.map_ident(n, map) >= IDENT_LIMIT {
+    if map_ident(store, n, map) >= IDENT_LIMIT {
         return Err(Reply::Limit(map));
     }
     Ok(())
@@ -128,7 +128,7 @@ fn new_place(store: &Store, n: NodeId, map: PageNo) -> Result<u8, Reply>
     ensures place { IfOk result (λ place. place ≤ 251) }
     ensures there { (image : MapImage) × ShowsMap store.now n.0 map image }
 {
-    match store.free_place(n, map) {
+    match free_place(store, n, map) {
         Some(place) => Ok(place),
         None => {
             check_map(store, n, map)?;

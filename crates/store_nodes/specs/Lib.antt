@@ -6,5 +6,3 @@ pub mod Known
 pub mod Shows
 pub mod Causes
 pub mod Footprint
-pub mod Flushes
-pub mod Updates

@@ -20,7 +20,7 @@ ghost use Rattle.store_nodes.specs.Pages.{HasMap, UsesPlace, value_after};
 ghost use Rattle.store_nodes.specs.Ports.{HasCause, IsQuiet, IsReady, IsStopReply, Works, Writes};
 ghost use Rattle.store_nodes.specs.Shows.{IsShown};
 
-use crate::cached_pages::map_identifier;
+use crate::map_page::map_identifier;
 use crate::node::{self, Node};
 use crate::store::Store;
 use log_record::LogRecord;

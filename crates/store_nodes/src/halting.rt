@@ -105,7 +105,7 @@ impl Store {
 
     /// What a fault of a device call is answered. Where the port of the node stopped, the node goes down;
     /// else nothing changes.
-    pub(crate) fn give_up<D: Disk, V: Disk>(
+    pub fn give_up<D: Disk, V: Disk>(
         &mut self,
         disk: &mut D,
         vault: &mut V,

@@ -6,21 +6,16 @@
 //! and `page_owner` for who may touch what; above it a command is a sequence of its calls.
 #![tactic(auto)]
 
-mod abort_updates;
-mod cached_pages;
 mod changing;
 mod checking;
-mod fetching;
-mod flushing;
 mod halting;
+mod map_page;
 mod node;
-mod rereading;
 mod starting;
 mod store;
-mod surrendering;
-mod taking;
 mod taking_back;
 mod transacting;
 
+pub use map_page::map_identifier;
 pub use node::{NODES, Node, place};
 pub use store::{Shared, Store};

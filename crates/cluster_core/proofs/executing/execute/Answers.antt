@@ -20,14 +20,14 @@ use Rattle.store_nodes.specs.Nodes.{IsStore, OnUp, node_at}
 use Rattle.store_nodes.specs.Pages.{KeepsWork, WritesBack}
 use Rattle.store_nodes.specs.Ports.{HasCause, IsQuiet, IsReady, IsStopReply, says_stop}
 use Rattle.store_nodes.specs.Shows.{IsShown}
-use Rattle.store_nodes.proofs.WorksWith.{works_same, works_with, writes_with}
+use Rattle.store_pages.proofs.WorksWith.{works_same, works_with, writes_with}
 use Rattle.store_commands.specs.Aborts.{IsAbortFault, IsToldOfAbort, KeepsOpen}
 use Rattle.store_commands.specs.Answering.{reply_deleted, reply_found, reply_of}
 use Rattle.store_commands.specs.AtHand.{HasBoth, IsAtHand, IsAtHandToDelete, MakesRoomWith}
 use Rattle.store_commands.specs.Faults.{IsFaultFor, IsWriteReason}
 use Rattle.store_commands.specs.Reasons.{IsFoundIn}
 use Rattle.store_commands.proofs.Testing.{error_then, on_done, passed, test_of}
-use Rattle.store_nodes.proofs.Results.{ok_then}
+use Rattle.store_pages.proofs.Results.{ok_then}
 use Rattle.cluster_core.specs.Answers.{reply_flushed}
 use Rattle.cluster_core.specs.Records.{is_refusal, key_of, says_done}
 use Rattle.cluster_core.proofs.Answered.{known_leaves, known_not_done, known_plain, log_down, plain_cause, plain_runs, refusal_runs, start_told, state_plain, state_told, stop_no_refusal, stop_runs, stop_told, stops_down}

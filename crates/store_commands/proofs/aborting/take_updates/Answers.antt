@@ -8,7 +8,7 @@ use Rattle.store_nodes.specs.Nodes.{OnUp, is_up, node_at}
 use Rattle.store_nodes.specs.Pages.{KeepsWork, has_txn}
 use Rattle.store_nodes.specs.Ports.{says_stop}
 use Rattle.store_nodes.specs.Shows.{IsShown}
-use Rattle.store_nodes.specs.Updates.{IsWithin}
+use Rattle.store_pages.specs.Updates.{IsWithin}
 use Rattle.store_commands.specs.Aborts.{IsAbortFault, IsToldOfAbort}
 use Rattle.store_commands.proofs.AbortCauses.{log_fault, log_stop, log_told}
 use Rattle.store_commands.proofs.LeavesThen.{down_alone, fault_behind, leaves_none, leaves_pass, leaves_read, leaves_then, leaves_value, same_unless, the_done, work_same}

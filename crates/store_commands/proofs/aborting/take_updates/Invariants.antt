@@ -3,8 +3,8 @@ use Rattle.record_machine.specs.Machine.{Machine}
 use Rattle.store_nodes.specs.Nodes.{OnUp, node_at}
 use Rattle.store_nodes.specs.Pages.{KeepsWork, has_txn}
 use Rattle.store_nodes.specs.Shows.{IsShown}
-use Rattle.store_nodes.specs.Updates.{IsWithin}
-use Rattle.store_nodes.proofs.Walks.{ahead}
+use Rattle.store_pages.specs.Updates.{IsWithin}
+use Rattle.store_pages.proofs.Walks.{ahead}
 use Rattle.store_commands.specs.Aborts.{Leaves}
 use Rattle.store_commands.proofs.LeavesThen.{the_done}
 use Rattle.store_commands.proofs.PagesTaken.{HasTakenDown}

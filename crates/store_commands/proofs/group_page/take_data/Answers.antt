@@ -13,7 +13,7 @@ use Rattle.store_nodes.specs.Pages.{HasCached, ShowsMap}
 use Rattle.store_nodes.specs.Ports.{SaysStopOf, UnlessStop, says_stop}
 use Rattle.store_nodes.specs.Shows.{IsShown}
 use Rattle.store_nodes.specs.Known.{held_in}
-use Rattle.store_nodes.proofs.Images.{cached_map}
+use Rattle.store_pages.proofs.Images.{cached_map}
 use Rattle.store_commands.specs.Taking.{UnlessHeld}
 use Rattle.store_commands.proofs.Entries.{entry_of}
 use Rattle.store_commands.proofs.Stopping.{done_on, stop_on, unless_ok, unless_pass}

@@ -16,7 +16,7 @@ use Rattle.store_nodes.specs.Pages.{ShowsMap}
 use Rattle.store_nodes.specs.Ports.{SaysStopOf, UnlessStop, says_stop}
 use Rattle.store_nodes.specs.Shows.{IsShown}
 use Rattle.store_nodes.specs.Known.{held_in}
-use Rattle.store_nodes.proofs.Images.{cached_map}
+use Rattle.store_pages.proofs.Images.{cached_map}
 use Rattle.store_commands.specs.AtHand.{HasPlace}
 use Rattle.store_commands.specs.Faults.{IsFaultFor}
 use Rattle.store_commands.specs.Taking.{UnlessHeld}

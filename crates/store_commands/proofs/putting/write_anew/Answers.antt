@@ -23,7 +23,7 @@ use Rattle.store_nodes.specs.declared.node.Node.TheVariants.{Down}
 use Rattle.store_nodes.specs.Pages.{HasCached, KeepsWork, ShowsMap, value_after}
 use Rattle.store_nodes.specs.Ports.{HasCause, IsStopReply, SaysStopOf, UnlessStop, says_stop}
 use Rattle.store_nodes.specs.Shows.{IsShown}
-use Rattle.store_nodes.proofs.WorksWith.{seats_same}
+use Rattle.store_pages.proofs.WorksWith.{seats_same}
 use Rattle.store_commands.specs.Answering.{Answers, new_parts, new_takes}
 use Rattle.store_commands.specs.Changing.{length_refusal}
 use Rattle.store_commands.specs.Faults.{IsFaultFor, IsWriteReason}

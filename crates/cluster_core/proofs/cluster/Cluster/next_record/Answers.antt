@@ -11,7 +11,7 @@ use Rattle.store_nodes.specs.Known.{any_lock, known, reopening}
 use Rattle.store_nodes.specs.Nodes.{IsStore, node_at}
 use Rattle.store_nodes.specs.Ports.{IsQuiet, IsReady, IsStopReply, says_stop}
 use Rattle.store_nodes.specs.Shows.{IsShown}
-use Rattle.store_nodes.proofs.WorksWith.{works_same}
+use Rattle.store_pages.proofs.WorksWith.{works_same}
 use Rattle.store_commands.specs.Dumps.{reply_row}
 use Rattle.store_commands.proofs.Testing.{passed, test_of}
 use Rattle.cluster_core.proofs.Answered.{known_plain, plain_cause, plain_runs}

@@ -1,0 +1,247 @@
+use Rattle.std.specs.Prelude.{◌≡◌, refl}
+use Rattle.std.specs.List.{count_by}
+use Rattle.std.proofs.Common.{ap, subst, sym, ◌∙◌}
+use Rattle.node_cache.specs.Cache.{has_changes}
+use Rattle.node_cache.specs.Writes.{HoldsPages}
+use Rattle.store_nodes.specs.Nodes.{OnUp}
+use Rattle.store_nodes.specs.Pages.{WritesBack}
+use Rattle.store_pages.proofs.Flushed.{besides_flushed, but_flushed, changed_flushed, contents_flushed, free_pages, none_left, on_both, on_disk, out_pages, quiet_but_flushed, quiet_flushed, reach_pages, shows_flushed, still_stable, store_flushed, work_kept}
+use Rattle.store_nodes.proofs.Logs as logs
+use Rattle.store_pages.proofs.flushing.write_back.Goals as goal
+
+pub flush_all-done-requires-clause-store : goal.flush_all-done-requires-clause-store
+flush_all-done-requires-clause-store g c =
+    let me = c.args.store.now in
+    let n = c.args.n.0 in
+    let i = c.place.result in
+    let k = c.in-Up.cache in
+    let seats = c.in-Up._seats in
+    let is = c.requires.ready.is in
+    let up = logs.up_at me n i c.index-store-place.result k seats is c.requires.node c.place.ensures.is c.in-Up.is in
+    (logs.work me n i k k seats seats is c.requires.node c.place.ensures.is up).store
+
+pub flush_all-done-requires-clause-out : goal.flush_all-done-requires-clause-out
+flush_all-done-requires-clause-out g c =
+    let me = c.args.store.now in
+    let n = c.args.n.0 in
+    let i = c.place.result in
+    let k = c.in-Up.cache in
+    let seats = c.in-Up._seats in
+    let is = c.requires.ready.is in
+    let up = logs.up_at me n i c.index-store-place.result k seats is c.requires.node c.place.ensures.is c.in-Up.is in
+    out_pages me n i k k seats is c.requires.node c.place.ensures.is up
+
+pub flush_all-done-requires-clause-page_reach : goal.flush_all-done-requires-clause-page_reach
+flush_all-done-requires-clause-page_reach g c =
+    let me = c.args.store.now in
+    let n = c.args.n.0 in
+    let i = c.place.result in
+    let k = c.in-Up.cache in
+    let seats = c.in-Up._seats in
+    let is = c.requires.ready.is in
+    let up = logs.up_at me n i c.index-store-place.result k seats is c.requires.node c.place.ensures.is c.in-Up.is in
+    reach_pages me n i k k seats is c.requires.node c.place.ensures.is up (g.D.Disk.state c.args.disk.now) c.requires.ready.served.whole
+
+pub flush_all-done-requires-clause-log_free : goal.flush_all-done-requires-clause-log_free
+flush_all-done-requires-clause-log_free g c = λ told.
+    let me = c.args.store.now in
+    let n = c.args.n.0 in
+    let i = c.place.result in
+    let k = c.in-Up.cache in
+    let a = (g.D.Disk.state c.args.disk.now).block in
+    let seats = c.in-Up._seats in
+    let is = c.requires.ready.is in
+    let up = logs.up_at me n i c.index-store-place.result k seats is c.requires.node c.place.ensures.is c.in-Up.is in
+    logs.region_free me n i k k seats seats is c.requires.node c.place.ensures.is up a (c.requires.quiet told)
+
+pub flush_all-done-requires-clause-page_free : goal.flush_all-done-requires-clause-page_free
+flush_all-done-requires-clause-page_free g c = λ told.
+    let me = c.args.store.now in
+    let n = c.args.n.0 in
+    let i = c.place.result in
+    let k = c.in-Up.cache in
+    let a = (g.D.Disk.state c.args.disk.now).block in
+    let seats = c.in-Up._seats in
+    let is = c.requires.ready.is in
+    let up = logs.up_at me n i c.index-store-place.result k seats is c.requires.node c.place.ensures.is c.in-Up.is in
+    free_pages me n i k k seats is c.requires.node c.place.ensures.is up a (c.requires.quiet told)
+
+pub give_up-requires-clause-is : goal.give_up-requires-clause-is
+give_up-requires-clause-is g c =
+    let me = c.args.store.now in
+    let n = c.args.n.0 in
+    let i = c.place.result in
+    let k = c.in-Up.cache in
+    let d = c.flush_all-done.new.self in
+    let seats = c.in-Up._seats in
+    let is = c.requires.ready.is in
+    let up = logs.up_at me n i c.index-store-place.result k seats is c.requires.node c.place.ensures.is c.in-Up.is in
+    but_flushed me n i k d seats is c.requires.node c.place.ensures.is up c.flush_all-done.ensures.node c.flush_all-done.ensures.same_pages c.law_of_pages.ensures
+
+pub give_up-requires-clause-quiet : goal.give_up-requires-clause-quiet
+give_up-requires-clause-quiet g c = λ told.
+    let me = c.args.store.now in
+    let n = c.args.n.0 in
+    let i = c.place.result in
+    let k = c.in-Up.cache in
+    let d = c.flush_all-done.new.self in
+    let seats = c.in-Up._seats in
+    let is = c.requires.ready.is in
+    let up = logs.up_at me n i c.index-store-place.result k seats is c.requires.node c.place.ensures.is c.in-Up.is in
+    let a = (g.D.Disk.state c.args.disk.now).block in
+    let b = (g.D.Disk.state c.flush_all-done.new.disk).block in
+    quiet_but_flushed me n i k d seats is c.requires.node c.place.ensures.is up a b (c.flush_all-done.ensures.writers told) (c.requires.quiet told)
+
+pub returns-in-Ok-clause-works : goal.returns-in-Ok-clause-works
+returns-in-Ok-clause-works g c =
+    let me = c.args.store.now in
+    let n = c.args.n.0 in
+    let i = c.place.result in
+    let k = c.in-Up.cache in
+    let d = c.flush_all-done.new.self in
+    let seats = c.in-Up._seats in
+    let is = c.requires.ready.is in
+    let up = logs.up_at me n i c.index-store-place.result k seats is c.requires.node c.place.ensures.is c.in-Up.is in
+    logs.works_after me n i k d seats seats is c.requires.node c.place.ensures.is up me.shared (g.D.Disk.state c.args.disk.now) (g.D.Disk.state c.flush_all-done.new.disk) (g.V.Disk.state c.args.vault.now) refl refl
+    (store_flushed me n i k d seats is c.requires.node c.place.ensures.is up c.flush_all-done.ensures.node c.flush_all-done.ensures.same_pages c.law_of_pages.ensures c.flush_all-done.ensures.same c.flush_all-done.ensures.tail c.flush_all-done.ensures.log_tie)
+    c.flush_all-done.ensures.keeps c.in-Ok.ensures.live c.requires.ready.served
+
+pub returns-in-Ok-clause-writes : goal.returns-in-Ok-clause-writes
+returns-in-Ok-clause-writes g c = λ told.
+    let me = c.args.store.now in
+    let n = c.args.n.0 in
+    let i = c.place.result in
+    let k = c.in-Up.cache in
+    let d = c.flush_all-done.new.self in
+    let seats = c.in-Up._seats in
+    let is = c.requires.ready.is in
+    let up = logs.up_at me n i c.index-store-place.result k seats is c.requires.node c.place.ensures.is c.in-Up.is in
+    let a = (g.D.Disk.state c.args.disk.now).block in
+    let b = (g.D.Disk.state c.flush_all-done.new.disk).block in
+    record {
+      quiet = quiet_flushed me n i k d seats is c.requires.node c.place.ensures.is up a b (c.flush_all-done.ensures.writers told) (c.requires.quiet told);
+      besides = besides_flushed me n i k d seats is c.requires.node c.place.ensures.is up a b (c.flush_all-done.ensures.outcomes told);
+    }
+
+pub returns-clause-writes : goal.returns-clause-writes
+returns-clause-writes g c = λ told.
+    let me = c.args.store.now in
+    let n = c.args.n.0 in
+    let i = c.place.result in
+    let k = c.in-Up.cache in
+    let d = c.flush_all-done.new.self in
+    let seats = c.in-Up._seats in
+    let is = c.requires.ready.is in
+    let up = logs.up_at me n i c.index-store-place.result k seats is c.requires.node c.place.ensures.is c.in-Up.is in
+    let a = (g.D.Disk.state c.args.disk.now).block in
+    let b = (g.D.Disk.state c.flush_all-done.new.disk).block in
+    record {
+      quiet = c.give_up.ensures.quiet told;
+      besides = λ j o page ring may. besides_flushed me n i k d seats is c.requires.node c.place.ensures.is up a b (c.flush_all-done.ensures.outcomes told) j o page ring (c.give_up.ensures.outcomes told j o may);
+    }
+
+pub returns-in-Ok-clause-kept : goal.returns-in-Ok-clause-kept
+returns-in-Ok-clause-kept g c =
+    let me = c.args.store.now in
+    let n = c.args.n.0 in
+    let i = c.place.result in
+    let k = c.in-Up.cache in
+    let d = c.flush_all-done.new.self in
+    let seats = c.in-Up._seats in
+    let is = c.requires.ready.is in
+    let up = logs.up_at me n i c.index-store-place.result k seats is c.requires.node c.place.ensures.is c.in-Up.is in
+    work_kept me n i k d seats is c.requires.node c.place.ensures.is up
+
+pub returns-in-Ok-clause-written : goal.returns-in-Ok-clause-written
+returns-in-Ok-clause-written g c =
+    let me = c.args.store.now in
+    let n = c.args.n.0 in
+    let i = c.place.result in
+    let k = c.in-Up.cache in
+    let d = c.flush_all-done.new.self in
+    let seats = c.in-Up._seats in
+    let is = c.requires.ready.is in
+    let up = logs.up_at me n i c.index-store-place.result k seats is c.requires.node c.place.ensures.is c.in-Up.is in
+    let stable = subst (λ o. OnUp o (λ e those. e.log.stable ≡ e.log.tail)) up c.requires.stable in
+    on_both me n i k d seats is c.requires.node c.place.ensures.is up (λ e o. WritesBack e o c.in-Ok.count) (record {
+      number = c.in-Ok.ensures.count;
+      clean = ap (count_by has_changes) c.in-Ok.ensures.pages ∙ none_left k.pages;
+      stable = still_stable k d (count_by has_changes k.pages) stable c.flush_all-done.ensures.tail c.in-Ok.ensures.stable (λ none. (c.flush_all-done.ensures.idle none).1);
+    })
+
+pub returns-in-Ok-clause-outcomes : goal.returns-in-Ok-clause-outcomes
+returns-in-Ok-clause-outcomes g c = λ told.
+    let me = c.args.store.now in
+    let n = c.args.n.0 in
+    let i = c.place.result in
+    let k = c.in-Up.cache in
+    let d = c.flush_all-done.new.self in
+    let seats = c.in-Up._seats in
+    let is = c.requires.ready.is in
+    let up = logs.up_at me n i c.index-store-place.result k seats is c.requires.node c.place.ensures.is c.in-Up.is in
+    let a = (g.D.Disk.state c.args.disk.now).block in
+    let b = (g.D.Disk.state c.flush_all-done.new.disk).block in
+    changed_flushed me n i k d seats is c.requires.node c.place.ensures.is up a b (c.flush_all-done.ensures.outcomes told)
+
+pub returns-clause-outcomes : goal.returns-clause-outcomes
+returns-clause-outcomes g c = λ told j o apart may.
+    let me = c.args.store.now in
+    let n = c.args.n.0 in
+    let i = c.place.result in
+    let k = c.in-Up.cache in
+    let d = c.flush_all-done.new.self in
+    let seats = c.in-Up._seats in
+    let is = c.requires.ready.is in
+    let up = logs.up_at me n i c.index-store-place.result k seats is c.requires.node c.place.ensures.is c.in-Up.is in
+    let a = (g.D.Disk.state c.args.disk.now).block in
+    let b = (g.D.Disk.state c.flush_all-done.new.disk).block in
+    changed_flushed me n i k d seats is c.requires.node c.place.ensures.is up a b (c.flush_all-done.ensures.outcomes told) j o apart (c.give_up.ensures.outcomes told j o may)
+
+pub returns-in-Ok-clause-contents : goal.returns-in-Ok-clause-contents
+returns-in-Ok-clause-contents g c = λ told.
+    let me = c.args.store.now in
+    let n = c.args.n.0 in
+    let i = c.place.result in
+    let k = c.in-Up.cache in
+    let d = c.flush_all-done.new.self in
+    let seats = c.in-Up._seats in
+    let is = c.requires.ready.is in
+    let up = logs.up_at me n i c.index-store-place.result k seats is c.requires.node c.place.ensures.is c.in-Up.is in
+    let a = (g.D.Disk.state c.args.disk.now).block in
+    let b = (g.D.Disk.state c.flush_all-done.new.disk).block in
+    contents_flushed me n i k d seats is c.requires.node c.place.ensures.is up a b (c.in-Ok.ensures.contents told)
+
+pub returns-in-Ok-clause-holds : goal.returns-in-Ok-clause-holds
+returns-in-Ok-clause-holds g c = λ told.
+    let me = c.args.store.now in
+    let n = c.args.n.0 in
+    let i = c.place.result in
+    let k = c.in-Up.cache in
+    let d = c.flush_all-done.new.self in
+    let seats = c.in-Up._seats in
+    let is = c.requires.ready.is in
+    let up = logs.up_at me n i c.index-store-place.result k seats is c.requires.node c.place.ensures.is c.in-Up.is in
+    let a = (g.D.Disk.state c.args.disk.now).block in
+    let b = (g.D.Disk.state c.flush_all-done.new.disk).block in
+    subst (λ o. OnUp o (λ e those. HoldsPages me.shape me.shared.pool e.pages b)) (sym up) (c.in-Ok.ensures.holds told)
+
+pub returns-in-Ok-clause-shows : goal.returns-in-Ok-clause-shows
+returns-in-Ok-clause-shows g c = λ told m shown.
+    let me = c.args.store.now in
+    let n = c.args.n.0 in
+    let i = c.place.result in
+    let k = c.in-Up.cache in
+    let d = c.flush_all-done.new.self in
+    let seats = c.in-Up._seats in
+    let is = c.requires.ready.is in
+    let up = logs.up_at me n i c.index-store-place.result k seats is c.requires.node c.place.ensures.is c.in-Up.is in
+    let a = (g.D.Disk.state c.args.disk.now).block in
+    let b = (g.D.Disk.state c.flush_all-done.new.disk).block in (
+      shown.0,
+      record {
+        nodes = shows_flushed me n i k d seats is c.requires.node c.place.ensures.is up a b shown.0 m shown.1.nodes c.flush_all-done.ensures.same_pages c.flush_all-done.ensures.same (c.in-Ok.ensures.log told) (c.flush_all-done.ensures.foreign told) (c.requires.quiet told) (c.flush_all-done.ensures.outcomes told)
+            (λ x low more clean. on_disk me n i k d seats is c.requires.node c.place.ensures.is up a b shown.0 m shown.1.nodes (c.in-Ok.ensures.holds told) x low more);
+        locks = shown.1.locks;
+        reopening = shown.1.reopening;
+      },
+    )
