@@ -25,6 +25,7 @@ use script_text::{Command, Reply};
 use sd_base::{Arm, Key, NodeId, TxnId};
 use store_commands::{abort, delete, get, write_record};
 use store_nodes::Store;
+use store_pages::flush;
 use txn_core::{Change, Ending};
 
 /// Executes a command over a store: it is refused for what is in memory, or done.

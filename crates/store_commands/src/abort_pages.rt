@@ -19,6 +19,7 @@ use script_text::Reply;
 use sd_base::{Disk, NodeId, PageNo};
 use space_map::MapEntry;
 use store_nodes::Store;
+use store_pages::{entry_at, has_page, is_clean, reread, take};
 
 /// Makes a page the node's, and cached. Where it was cached already, and its block has all its changes, the
 /// block is read all the same: what is said of it is then found out.

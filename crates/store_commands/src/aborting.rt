@@ -20,6 +20,7 @@ use crate::abort_pages::{take_if_gone, take_update};
 use script_text::Reply;
 use sd_base::{Disk, PageNo, TxnId};
 use store_nodes::Store;
+use store_pages::{test_room, update_after};
 use txn_core::Ending;
 
 /// Takes the page of an update of the transaction, after its map page, and tests that it has room for what

@@ -22,6 +22,7 @@ use crate::group_page::take_group;
 use script_text::Reply;
 use sd_base::{Disk, GroupNo, KEYS_PER_GROUP, Key, MAX_GROUP, NodeId, PageNo, Value};
 use store_nodes::Store;
+use store_pages::{next_group, slot_of, take};
 
 /// The groups end here: that of the greatest key is the last one.
 const GROUPS: u32 = MAX_GROUP + 1;

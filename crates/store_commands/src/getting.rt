@@ -29,6 +29,7 @@ use record_locks::Mode;
 use script_text::Reply;
 use sd_base::{Disk, Key, NodeId, PageNo, TxnId, Value};
 use store_nodes::Store;
+use store_pages::slot_of;
 
 /// The record of a key, where its group may have this page, which the node has cached.
 pub fn record_in(store: &Store, n: NodeId, home: Option<PageNo>, key: Key) -> Option<Value>

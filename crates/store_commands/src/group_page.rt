@@ -27,6 +27,7 @@ ghost use Rattle.store_commands.specs.Taking.{UnlessHeld};
 use script_text::Reply;
 use sd_base::{Disk, Key, NodeId, PageNo};
 use store_nodes::Store;
+use store_pages::{entry_at, place_of_group, take};
 
 /// Makes the data page of a place of a cached map page the node's, and cached.
 pub(crate) fn take_data<D: Disk, V: Disk>(

@@ -38,6 +38,7 @@ use record_locks::Mode;
 use script_text::Reply;
 use sd_base::{Disk, Key, NodeId, PageNo, TxnId, Value};
 use store_nodes::Store;
+use store_pages::{data_ident, free_place, map_ident, slot_of};
 use txn_core::Change;
 
 /// A page whose identifier is this or more takes no further change.

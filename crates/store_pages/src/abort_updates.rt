@@ -127,7 +127,7 @@ pub fn update_after<D: Disk, V: Disk>(
     ensures next { IfOk result (λ o. IsTrue D.told → (m : Machine) → IsShown store.old (D.state disk.old).block m → IfSome after (IsNumberOf m t) → IfSome o (λ u. IsNumberOf m t u.0)) }
     ensures newest { after ≡ None → IfOk result (λ o. IsTrue D.told → (m : Machine) → IsShown store.old (D.state disk.old).block m → MatchOption o (newest_of m t ≡ None) (λ u. (d : Deed) × (w : Write) × (newest_of m t ≡ Some d) × (d.write ≡ Some w) × (w.page ≡ u.1.0))) }
 {
-    let fault = match store: &mut Store.nodes[place(t.node)] {
+    let fault = match &mut store.nodes[place(t.node)] {
         Node::Up(cache, seats) => match find_update(disk, cache, seats, t.seat, after) {
             Ok(found) => return of_store(&store.shape, t.node, found),
             Err(fault) => fault,

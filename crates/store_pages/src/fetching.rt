@@ -60,9 +60,9 @@ pub(crate) fn fetch<D: Disk, V: Disk>(
     ensures owners { OnOk result (KeepsHoldersBut x store.old store.new) }
     ensures hit { HasCached store.old n.0 x → (IsOk result) × (store.new ≡ store.old) × (disk.new ≡ disk.old) × (vault.new ≡ vault.old) }
 {
-    let fault = match store: &mut Store.nodes[place(n)] {
+    let fault = match &mut store.nodes[place(n)] {
         Node::Up(cache, _seats) => {
-            let shared = store: &mut Store.shared;
+            let shared = &mut store.shared;
             let done = cache.fetch(
                 disk,
                 &store.shape,

@@ -42,7 +42,7 @@ fn force<D: Disk, V: Disk>(
     ensures contents { OnOk result (IsTrue D.told → KeepsAllButLog n.0 store.old.shape (D.state disk.old).block (D.state disk.new).block) }
     ensures shows { OnOk result (IsTrue D.told → (m : Machine) → IsShown store.old (D.state disk.old).block m → IsShown store.new (D.state disk.new).block (one (Sure n.0) m)) }
 {
-    let fault = match store: &mut Store.nodes[place(n)] {
+    let fault = match &mut store.nodes[place(n)] {
         Node::Up(cache, _seats) => {
             let done = cache.force(disk);
             cache.law_of_pages();
@@ -84,7 +84,7 @@ fn write_back<D: Disk, V: Disk>(
     ensures holds { OnOk result (IsTrue D.told → HoldsChanged n.0 store.old (D.state disk.new).block) }
     ensures shows { OnOk result (IsTrue D.told → (m : Machine) → IsShown store.old (D.state disk.old).block m → IsShown store.new (D.state disk.new).block m) }
 {
-    let fault = match store: &mut Store.nodes[place(n)] {
+    let fault = match &mut store.nodes[place(n)] {
         Node::Up(cache, _seats) => {
             let done = cache.flush_all(disk, &store.shape, &store.shared.pool);
             cache.law_of_pages();

@@ -65,7 +65,7 @@ pub fn reread<D: Disk, V: Disk>(
     ensures same { OnOk result ((store.new ≡ store.old) × (IsTrue D.told → (D.state disk.new).block ≡ (D.state disk.old).block)) }
     ensures stopped { OnUp (node_at store.old.nodes n.0) (λ c seats. IsTrue (is_cached x c) × (is_changed x c ≡ false)) → IfErr result (λ why. IsTrue D.told → (m : Machine) → IsShown store.old (D.state disk.old).block m → IsStopReply n.0 why) }
 {
-    let fault = match store: &mut Store.nodes[place(n)] {
+    let fault = match &mut store.nodes[place(n)] {
         Node::Up(cache, _seats) => match cache.reread(disk, &store.shape, x) {
             Ok(()) => return Ok(()),
             Err(fault) => fault,

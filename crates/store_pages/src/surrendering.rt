@@ -50,16 +50,10 @@ pub(crate) fn surrender<D: Disk, V: Disk>(
     ensures pages { OnOk result (IsTrue D.told → (y : PageNo) → y.0 < page_count store.old.shape → y ≢ x → KeepsPage store.old.shape y (D.state disk.old).block (D.state disk.new).block) }
     ensures shows { OnOk result (IsTrue D.told → (m : Machine) → IsShown store.old (D.state disk.old).block m → IsShown store.new (D.state disk.new).block (one (Drop x.0) m)) }
 {
-    let fault = match store: &mut Store.nodes[place(h)] {
+    let fault = match &mut store.nodes[place(h)] {
         Node::Up(cache, _seats) => {
-            let shared = store: &mut Store.shared;
-            let done = cache.surrender(
-                disk,
-                &store.shape,
-                &mut shared.pool,
-                &mut shared.owners,
-                x,
-            );
+            let shared = &mut store.shared;
+            let done = cache.surrender(disk, &store.shape, &mut shared.pool, &mut shared.owners, x);
             cache.law_of_pages();
             match done {
                 Ok(()) => return Ok(()),

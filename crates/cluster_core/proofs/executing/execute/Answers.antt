@@ -349,16 +349,16 @@ returns-in-Abort-clause-step g c = λ told runs m shown.
     (λ none done. back_step m c.in-Abort.t c.abort.result S none done.0 done.1))
 
 pub returns-in-Flush-clause-works : goal.returns-in-Flush-clause-works
-returns-in-Flush-clause-works g c = rw (c.in-Flush.is, c.reply_flushed.ensures) (works_with c.in-Flush.n.0 (λ h. IsStopReply h (reply_flushed c.flush.result)) c.args.store.now c.flush.new.self (g.D.Disk.state c.args.disk.now) (g.D.Disk.state c.flush.new.disk) (g.V.Disk.state c.args.vault.now) (g.V.Disk.state c.flush.new.vault) c.flush.ensures.works)
+returns-in-Flush-clause-works g c = rw (c.in-Flush.is, c.reply_flushed.ensures) (works_with c.in-Flush.n.0 (λ h. IsStopReply h (reply_flushed c.flush.result)) c.args.store.now c.flush.new.store (g.D.Disk.state c.args.disk.now) (g.D.Disk.state c.flush.new.disk) (g.V.Disk.state c.args.vault.now) (g.V.Disk.state c.flush.new.vault) c.flush.ensures.works)
 
 pub returns-in-Flush-clause-writes : goal.returns-in-Flush-clause-writes
-returns-in-Flush-clause-writes g c = rw (c.in-Flush.is) (λ told. writes_with c.in-Flush.n.0 c.args.store.now c.flush.new.self (g.D.Disk.state c.args.disk.now).block (g.D.Disk.state c.flush.new.disk).block (c.flush.ensures.writes told))
+returns-in-Flush-clause-writes g c = rw (c.in-Flush.is) (λ told. writes_with c.in-Flush.n.0 c.args.store.now c.flush.new.store (g.D.Disk.state c.args.disk.now).block (g.D.Disk.state c.flush.new.disk).block (c.flush.ensures.writes told))
 
 pub returns-in-Flush-clause-cause : goal.returns-in-Flush-clause-cause
 returns-in-Flush-clause-cause g c = rw (c.reply_flushed.ensures) (of_flushed (λ why. HasCause why (g.D.Disk.state c.args.disk.now) (g.D.Disk.state c.flush.new.disk)) c.flush.result (λ count. tt) c.flush.ensures.cause)
 
 pub returns-in-Flush-clause-down : goal.returns-in-Flush-clause-down
-returns-in-Flush-clause-down g c = rw (c.reply_flushed.ensures) (of_flushed (λ why. (h : ℕ) → IsStopReply h why → node_at c.flush.new.self.nodes h ≡ Down) c.flush.result (λ count. (λ h is. absurd is)) (stops_down c.in-Flush.n.0 c.flush.result c.flush.new.self.nodes c.flush.ensures.stopped c.flush.ensures.down))
+returns-in-Flush-clause-down g c = rw (c.reply_flushed.ensures) (of_flushed (λ why. (h : ℕ) → IsStopReply h why → node_at c.flush.new.store.nodes h ≡ Down) c.flush.result (λ count. (λ h is. absurd is)) (stops_down c.in-Flush.n.0 c.flush.result c.flush.new.store.nodes c.flush.ensures.stopped c.flush.ensures.down))
 
 pub returns-in-Flush-clause-known : goal.returns-in-Flush-clause-known
 returns-in-Flush-clause-known g c = λ why some. (let never : None ≡ Some why = sym (passed (known c.args.store.now c.args.command.now) (sym c.check.ensures ∙ c.in_default.is)) ∙ some in cc)
@@ -367,18 +367,18 @@ pub returns-in-Flush-clause-answer : goal.returns-in-Flush-clause-answer
 returns-in-Flush-clause-answer g c = rw (c.in-Flush.is, c.reply_flushed.ensures) (λ none. (flushed_or (IsStopReply c.in-Flush.n.0) c.flush.result c.flush.ensures.few c.flush.ensures.stopped))
 
 pub returns-in-Flush-clause-told : goal.returns-in-Flush-clause-told
-returns-in-Flush-clause-told g c = rw (c.in-Flush.is, c.reply_flushed.ensures) (λ told none. of_flushed (IsToldOfPages c.flush.new.self.shape (contents (g.D.Disk.state c.flush.new.disk).block)) c.flush.result (λ count. tt) (error_then c.flush.result (IsStopReply c.in-Flush.n.0) (IsToldOfPages c.flush.new.self.shape (contents (g.D.Disk.state c.flush.new.disk).block)) c.flush.ensures.stopped (stop_told c.flush.new.self.shape (contents (g.D.Disk.state c.flush.new.disk).block) c.in-Flush.n.0)))
+returns-in-Flush-clause-told g c = rw (c.in-Flush.is, c.reply_flushed.ensures) (λ told none. of_flushed (IsToldOfPages c.flush.new.store.shape (contents (g.D.Disk.state c.flush.new.disk).block)) c.flush.result (λ count. tt) (error_then c.flush.result (IsStopReply c.in-Flush.n.0) (IsToldOfPages c.flush.new.store.shape (contents (g.D.Disk.state c.flush.new.disk).block)) c.flush.ensures.stopped (stop_told c.flush.new.store.shape (contents (g.D.Disk.state c.flush.new.disk).block) c.in-Flush.n.0)))
 
 pub returns-in-Flush-clause-refused : goal.returns-in-Flush-clause-refused
-returns-in-Flush-clause-refused g c = rw (c.in-Flush.is, c.reply_flushed.ensures) (of_flushed (λ why. is_refusal why ≡ true → KeepsWork c.in-Flush.n.0 c.args.store.now c.flush.new.self) c.flush.result (λ count. (λ is. cc)) (error_then c.flush.result (IsStopReply c.in-Flush.n.0) (λ why. is_refusal why ≡ true → KeepsWork c.in-Flush.n.0 c.args.store.now c.flush.new.self) c.flush.ensures.stopped (stop_no_refusal c.in-Flush.n.0)))
+returns-in-Flush-clause-refused g c = rw (c.in-Flush.is, c.reply_flushed.ensures) (of_flushed (λ why. is_refusal why ≡ true → KeepsWork c.in-Flush.n.0 c.args.store.now c.flush.new.store) c.flush.result (λ count. (λ is. cc)) (error_then c.flush.result (IsStopReply c.in-Flush.n.0) (λ why. is_refusal why ≡ true → KeepsWork c.in-Flush.n.0 c.args.store.now c.flush.new.store) c.flush.ensures.stopped (stop_no_refusal c.in-Flush.n.0)))
 
 pub returns-in-Flush-clause-refused_shown : goal.returns-in-Flush-clause-refused_shown
-returns-in-Flush-clause-refused_shown g c = rw (c.in-Flush.is, c.reply_flushed.ensures) (λ told is m shown. of_flushed (λ why. is_refusal why ≡ true → KeepsWork c.in-Flush.n.0 c.args.store.now c.flush.new.self) c.flush.result (λ count. (λ is. cc)) (error_then c.flush.result (IsStopReply c.in-Flush.n.0) (λ why. is_refusal why ≡ true → KeepsWork c.in-Flush.n.0 c.args.store.now c.flush.new.self) c.flush.ensures.stopped (stop_no_refusal c.in-Flush.n.0)) is)
+returns-in-Flush-clause-refused_shown g c = rw (c.in-Flush.is, c.reply_flushed.ensures) (λ told is m shown. of_flushed (λ why. is_refusal why ≡ true → KeepsWork c.in-Flush.n.0 c.args.store.now c.flush.new.store) c.flush.result (λ count. (λ is. cc)) (error_then c.flush.result (IsStopReply c.in-Flush.n.0) (λ why. is_refusal why ≡ true → KeepsWork c.in-Flush.n.0 c.args.store.now c.flush.new.store) c.flush.ensures.stopped (stop_no_refusal c.in-Flush.n.0)) is)
 
 pub returns-in-Flush-clause-step : goal.returns-in-Flush-clause-step
 returns-in-Flush-clause-step g c = λ told runs m shown.
     let a = (g.D.Disk.state c.args.disk.now).block in
-    let S : Machine → Type 0 = IsShown c.flush.new.self (g.D.Disk.state c.flush.new.disk).block in
+    let S : Machine → Type 0 = IsShown c.flush.new.store (g.D.Disk.state c.flush.new.disk).block in
     let was : IsShown c.args.store.now a m = shown in
     let is : IsStore c.args.store.now = c.requires.ready.is in
     let left = behind_known c.args.store.now a was.0 m is was.1 (asks.Flush c.in-Flush.n) (subst InRange c.in-Flush.is c.requires.range) (subst (λ k. known c.args.store.now k ≡ None) c.in-Flush.is (passed (known c.args.store.now c.args.command.now) (sym c.check.ensures ∙ c.in_default.is))) in
@@ -536,7 +536,7 @@ returns-in-Flush-clause-flushed g c = (λ n asked none runs.
     let both : asks.Flush c.in-Flush.n ≡ asks.Flush n = sym c.in-Flush.is ∙ asked in
     let same : c.in-Flush.n ≡ n = cc in
     let goes : says_stop (reply_flushed c.flush.result) ≡ false = subst (λ k. says_stop k ≡ false) c.reply_flushed.ensures runs in
-    let P : NodeId → ℕ → Type 0 = λ i count. OnUp (node_at c.args.store.now.nodes i.0) (λ d old. OnUp (node_at c.flush.new.self.nodes i.0) (λ e new. WritesBack d e count)) in
+    let P : NodeId → ℕ → Type 0 = λ i count. OnUp (node_at c.args.store.now.nodes i.0) (λ d old. OnUp (node_at c.flush.new.store.nodes i.0) (λ e new. WritesBack d e count)) in
     let all = flushed_count (P c.in-Flush.n) c.flush.result (error_then c.flush.result (IsStopReply c.in-Flush.n.0) (λ why. says_stop why ≡ true) c.flush.ensures.stopped (stop_runs c.in-Flush.n.0)) goes c.flush.ensures.written in
     (all.0, c.reply_flushed.ensures ∙ all.1, subst (λ i. P i all.0) same all.2))
 

@@ -29,7 +29,7 @@ use Rattle.store_commands.proofs.abort_pages.take_anew.Goals as goal
 pub returns-in_err-take-clause-leaves : goal.returns-in_err-take-clause-leaves
 returns-in_err-take-clause-leaves g c =
     let e = the_error c.from_residual.result _ c.from_residual.ensures.1 in
-    leaves_pass g.D.Disk.told g.V.Disk.told c.args.n.0 c.take.result c.from_residual.result e.0 c.args.store.now c.take.new.self (g.D.Disk.state c.args.disk.now) (g.D.Disk.state c.take.new.disk) (g.V.Disk.state c.args.vault.now) (g.V.Disk.state c.take.new.vault) (c.in_err-take.was ∙ ap Err (sym e.2)) e.1
+    leaves_pass g.D.Disk.told g.V.Disk.told c.args.n.0 c.take.result c.from_residual.result e.0 c.args.store.now c.take.new.store (g.D.Disk.state c.args.disk.now) (g.D.Disk.state c.take.new.disk) (g.V.Disk.state c.args.vault.now) (g.V.Disk.state c.take.new.vault) (c.in_err-take.was ∙ ap Err (sym e.2)) e.1
     (record { works = c.take.ensures.works; writes = c.take.ensures.writes; vault_outcomes = c.take.ensures.vault_outcomes; cause = c.take.ensures.cause; down = c.take.ensures.down; up = c.take.ensures.up; holders = c.take.ensures.holders })
 
 pub returns-in_err-take-clause-work : goal.returns-in_err-take-clause-work
@@ -50,7 +50,7 @@ returns-in_err-take-clause-told g c = λ told.
 pub returns-in_err-take-clause-step : goal.returns-in_err-take-clause-step
 returns-in_err-take-clause-step g c = λ told m shown.
     let e = the_error c.from_residual.result _ c.from_residual.ensures.1 in
-    let S : Machine → Type 0 = IsShown c.take.new.self (g.D.Disk.state c.take.new.disk).block in
+    let S : Machine → Type 0 = IsShown c.take.new.store (g.D.Disk.state c.take.new.disk).block in
     stop_on _ _ m (Take c.args.x.0 c.args.n.0 ∷ []) c.take.result c.from_residual.result e.0 S (c.in_err-take.was ∙ ap Err (sym e.2)) e.1
     (page_step m c.args.x.0 c.args.n.0 (held_in c.args.store.now c.args.x) c.take.result S (c.take.ensures.refused told m shown)
     (some_then (held_in c.args.store.now c.args.x) _ _ c.take.ensures.held (λ why same. (same.0, subst (λ v. IsShown v (g.D.Disk.state c.take.new.disk).block m) (sym same.1) (subst (λ d. IsShown c.args.store.now (g.D.Disk.state d).block m) (sym same.2) shown))))
@@ -77,23 +77,23 @@ pub returns-then-again-clause-leaves : goal.returns-then-again-clause-leaves
 returns-then-again-clause-leaves g c =
     let n = c.args.n.0 in
     let a = c.args.store.now in
-    let b = c.take.new.self in
+    let b = c.take.new.store in
     leaves_then g.D.Disk.told g.V.Disk.told n c.take.result tt c.in_ok-take.was a b (g.D.Disk.state c.args.disk.now) (g.D.Disk.state c.take.new.disk) (g.V.Disk.state c.args.vault.now) (g.V.Disk.state c.take.new.vault)
     (record { works = c.take.ensures.works; writes = c.take.ensures.writes; vault_outcomes = c.take.ensures.vault_outcomes; cause = c.take.ensures.cause; down = c.take.ensures.down; up = c.take.ensures.up; holders = c.take.ensures.holders })
-    c.reread.result c.reread.new.self (g.D.Disk.state c.reread.new.disk) (g.V.Disk.state c.reread.new.vault)
-    (leaves_read g.D.Disk.told g.V.Disk.told n c.reread.result b c.reread.new.self (g.D.Disk.state c.take.new.disk) (g.D.Disk.state c.reread.new.disk) (g.V.Disk.state c.take.new.vault) (g.V.Disk.state c.reread.new.vault) _ _ c.reread.ensures.works c.reread.ensures.writes c.reread.ensures.vault_outcomes c.reread.ensures.cause
-    (down_alone c.reread.result n c.reread.new.self (error_then c.reread.result (IsFaultOfPage b.shape n c.args.x) _ c.reread.ensures.fault (λ why fault h stop. page_stop n h b.shape c.args.x why fault stop)) c.reread.ensures.down)
+    c.reread.result c.reread.new.store (g.D.Disk.state c.reread.new.disk) (g.V.Disk.state c.reread.new.vault)
+    (leaves_read g.D.Disk.told g.V.Disk.told n c.reread.result b c.reread.new.store (g.D.Disk.state c.take.new.disk) (g.D.Disk.state c.reread.new.disk) (g.V.Disk.state c.take.new.vault) (g.V.Disk.state c.reread.new.vault) _ _ c.reread.ensures.works c.reread.ensures.writes c.reread.ensures.vault_outcomes c.reread.ensures.cause
+    (down_alone c.reread.result n c.reread.new.store (error_then c.reread.result (IsFaultOfPage b.shape n c.args.x) _ c.reread.ensures.fault (λ why fault h stop. page_stop n h b.shape c.args.x why fault stop)) c.reread.ensures.down)
     c.in_ok-take.ensures.up c.reread.ensures.same c.reread.ensures.kept)
 
 pub returns-then-again-clause-work : goal.returns-then-again-clause-work
 returns-then-again-clause-work g c =
     let first = unless_ok c.take.result tt c.in_ok-take.was c.take.ensures.work in
-    unless_then c.reread.result (λ same. subst (λ (v : Store). KeepsWork c.args.n.0 c.args.store.now v) (sym same) first) (same_unless c.reread.result c.take.new.self c.reread.new.self _ _ c.reread.ensures.same c.reread.ensures.kept)
+    unless_then c.reread.result (λ same. subst (λ (v : Store). KeepsWork c.args.n.0 c.args.store.now v) (sym same) first) (same_unless c.reread.result c.take.new.store c.reread.new.store _ _ c.reread.ensures.same c.reread.ensures.kept)
 
 pub returns-then-again-clause-fault : goal.returns-then-again-clause-fault
 returns-then-again-clause-fault g c =
     let n = c.args.n.0 in
-    let b = c.take.new.self in
+    let b = c.take.new.store in
     let within : c.args.x.0 < page_count b.shape = subst (λ s. c.args.x.0 < page_count s) (sym c.take.ensures.works.shape) c.requires.page in
     fault_behind g.D.Disk.told g.V.Disk.told n c.take.result tt c.in_ok-take.was c.args.store.now b (g.D.Disk.state c.args.disk.now) (g.D.Disk.state c.take.new.disk) (g.V.Disk.state c.args.vault.now) (g.V.Disk.state c.take.new.vault)
     (record { works = c.take.ensures.works; writes = c.take.ensures.writes; vault_outcomes = c.take.ensures.vault_outcomes; cause = c.take.ensures.cause; down = c.take.ensures.down; up = c.take.ensures.up; holders = c.take.ensures.holders })
@@ -111,7 +111,7 @@ returns-then-again-clause-step g c = λ told m shown.
     let x = c.args.x in
     let me = c.args.store.now in
     let db = (g.D.Disk.state c.take.new.disk).block in
-    let S : Machine → Type 0 = IsShown c.take.new.self db in
+    let S : Machine → Type 0 = IsShown c.take.new.store db in
     let again : c.is_clean-again.result ≡ true = search in
     let clean : OnUp (node_at me.nodes n) (λ k seats. IsTrue (is_cached x k) × (is_changed x k ≡ false)) = clean_is (node_at me.nodes n) (is_cached x) (is_changed x) c.is_clean-again.result again c.is_clean-again.ensures in
     let hit = c.take.ensures.hit (cached_of (node_at me.nodes n) clean) in
@@ -120,9 +120,9 @@ returns-then-again-clause-step g c = λ told m shown.
     (some_then (held_in me x) _ _ c.take.ensures.held (λ why same. (same.0, subst (λ v. IsShown v db m) (sym same.1) (subst (λ d. IsShown me (g.D.Disk.state d).block m) (sym same.2) shown))))
     (λ free. error_then c.take.result _ (λ why. says_stop why ≡ true) c.take.ensures.stopped (λ why stops. stops told m shown free))
     (on_done c.take.result c.take.ensures.shows (λ shows. shows told m shown))) in
-    sure_step c.reread.result (IsShown c.reread.new.self (g.D.Disk.state c.reread.new.disk).block (one (Take x.0 n) m)) m (Take x.0 n ∷ []) (IsShown c.reread.new.self (g.D.Disk.state c.reread.new.disk).block) all.0
+    sure_step c.reread.result (IsShown c.reread.new.store (g.D.Disk.state c.reread.new.disk).block (one (Take x.0 n) m)) m (Take x.0 n ∷ []) (IsShown c.reread.new.store (g.D.Disk.state c.reread.new.disk).block) all.0
     (error_then c.reread.result _ (λ why. says_stop why ≡ true) (c.reread.ensures.stopped (subst (λ (v : Store). OnUp (node_at v.nodes n) (λ k seats. IsTrue (is_cached x k) × (is_changed x k ≡ false))) (sym hit.1) clean)) (λ why stop. stops n why (stop told (one (Take x.0 n) m) all.1)))
-    (on_done c.reread.result c.reread.ensures.same (λ same. subst (λ (v : Store). IsShown v (g.D.Disk.state c.reread.new.disk).block (one (Take x.0 n) m)) (sym same.0) (subst (λ b. IsShown c.take.new.self b (one (Take x.0 n) m)) (sym (same.1 told)) all.1)))
+    (on_done c.reread.result c.reread.ensures.same (λ same. subst (λ (v : Store). IsShown v (g.D.Disk.state c.reread.new.disk).block (one (Take x.0 n) m)) (sym same.0) (subst (λ b. IsShown c.take.new.store b (one (Take x.0 n) m)) (sym (same.1 told)) all.1)))
   where
     cached_of : (node : Node) → OnUp node (λ k seats. IsTrue (is_cached c.args.x k) × (is_changed c.args.x k ≡ false)) → OnUp node (λ k seats. IsTrue (is_cached c.args.x k))
     cached_of Idle clean = tt
@@ -131,7 +131,7 @@ returns-then-again-clause-step g c = λ told m shown.
 
 pub returns-else-again-clause-leaves : goal.returns-else-again-clause-leaves
 returns-else-again-clause-leaves g c =
-    leaves_value g.D.Disk.told g.V.Disk.told c.args.n.0 c.take.result tt c.in_ok-take.was c.args.store.now c.take.new.self (g.D.Disk.state c.args.disk.now) (g.D.Disk.state c.take.new.disk) (g.V.Disk.state c.args.vault.now) (g.V.Disk.state c.take.new.vault)
+    leaves_value g.D.Disk.told g.V.Disk.told c.args.n.0 c.take.result tt c.in_ok-take.was c.args.store.now c.take.new.store (g.D.Disk.state c.args.disk.now) (g.D.Disk.state c.take.new.disk) (g.V.Disk.state c.args.vault.now) (g.V.Disk.state c.take.new.vault)
     (record { works = c.take.ensures.works; writes = c.take.ensures.writes; vault_outcomes = c.take.ensures.vault_outcomes; cause = c.take.ensures.cause; down = c.take.ensures.down; up = c.take.ensures.up; holders = c.take.ensures.holders }) tt
 
 pub returns-else-again-clause-work : goal.returns-else-again-clause-work
@@ -143,7 +143,7 @@ returns-else-again-clause-step g c = λ told m shown.
     let x = c.args.x in
     let me = c.args.store.now in
     let db = (g.D.Disk.state c.take.new.disk).block in
-    let S : Machine → Type 0 = IsShown c.take.new.self db in
+    let S : Machine → Type 0 = IsShown c.take.new.store db in
     let all = done_on m (Take x.0 n ∷ []) c.take.result tt S c.in_ok-take.was
     (page_step m x.0 n (held_in me x) c.take.result S (c.take.ensures.refused told m shown)
     (some_then (held_in me x) _ _ c.take.ensures.held (λ why same. (same.0, subst (λ v. IsShown v db m) (sym same.1) (subst (λ d. IsShown me (g.D.Disk.state d).block m) (sym same.2) shown))))

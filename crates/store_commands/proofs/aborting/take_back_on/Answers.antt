@@ -59,16 +59,16 @@ test_room-requires-clause-quiet g c = λ told. (c.take_if_gone.ensures.leaves.wr
 pub returns-in_err-test_room-clause-leaves : goal.returns-in_err-test_room-clause-leaves
 returns-in_err-test_room-clause-leaves g c =
     let e = the_error c.from_residual-in_err-test_room.result _ c.from_residual-in_err-test_room.ensures.1 in
-    leaves_pass g.D.Disk.told g.V.Disk.told c.args.t.node.0 c.test_room.result c.from_residual-in_err-test_room.result e.0 c.args.store.now c.test_room.new.self (g.D.Disk.state c.args.disk.now) (g.D.Disk.state c.test_room.new.disk) (g.V.Disk.state c.args.vault.now) (g.V.Disk.state c.test_room.new.vault) (c.in_err-test_room.was ∙ ap Err (sym e.2)) e.1
-    (leaves_then g.D.Disk.told g.V.Disk.told c.args.t.node.0 c.take_if_gone.result tt c.in_ok-take_if_gone.was c.args.store.now c.take_if_gone.new.store (g.D.Disk.state c.args.disk.now) (g.D.Disk.state c.take_if_gone.new.disk) (g.V.Disk.state c.args.vault.now) (g.V.Disk.state c.take_if_gone.new.vault) c.take_if_gone.ensures.leaves c.test_room.result c.test_room.new.self (g.D.Disk.state c.test_room.new.disk) (g.V.Disk.state c.test_room.new.vault)
-    (leaves_read g.D.Disk.told g.V.Disk.told c.args.t.node.0 c.test_room.result c.take_if_gone.new.store c.test_room.new.self (g.D.Disk.state c.take_if_gone.new.disk) (g.D.Disk.state c.test_room.new.disk) (g.V.Disk.state c.take_if_gone.new.vault) (g.V.Disk.state c.test_room.new.vault) _ _ c.test_room.ensures.works c.test_room.ensures.writes c.test_room.ensures.vault_outcomes c.test_room.ensures.cause
-    (down_alone c.test_room.result c.args.t.node.0 c.test_room.new.self (error_then c.test_room.result _ _ c.test_room.ensures.fault (λ why fault h stop. room_stop c.args.t.node.0 h c.take_if_gone.new.store c.args.x why _ _ _ fault stop)) c.test_room.ensures.down) c.in_ok-take_if_gone.ensures.leaves.up c.test_room.ensures.same c.test_room.ensures.kept))
+    leaves_pass g.D.Disk.told g.V.Disk.told c.args.t.node.0 c.test_room.result c.from_residual-in_err-test_room.result e.0 c.args.store.now c.test_room.new.store (g.D.Disk.state c.args.disk.now) (g.D.Disk.state c.test_room.new.disk) (g.V.Disk.state c.args.vault.now) (g.V.Disk.state c.test_room.new.vault) (c.in_err-test_room.was ∙ ap Err (sym e.2)) e.1
+    (leaves_then g.D.Disk.told g.V.Disk.told c.args.t.node.0 c.take_if_gone.result tt c.in_ok-take_if_gone.was c.args.store.now c.take_if_gone.new.store (g.D.Disk.state c.args.disk.now) (g.D.Disk.state c.take_if_gone.new.disk) (g.V.Disk.state c.args.vault.now) (g.V.Disk.state c.take_if_gone.new.vault) c.take_if_gone.ensures.leaves c.test_room.result c.test_room.new.store (g.D.Disk.state c.test_room.new.disk) (g.V.Disk.state c.test_room.new.vault)
+    (leaves_read g.D.Disk.told g.V.Disk.told c.args.t.node.0 c.test_room.result c.take_if_gone.new.store c.test_room.new.store (g.D.Disk.state c.take_if_gone.new.disk) (g.D.Disk.state c.test_room.new.disk) (g.V.Disk.state c.take_if_gone.new.vault) (g.V.Disk.state c.test_room.new.vault) _ _ c.test_room.ensures.works c.test_room.ensures.writes c.test_room.ensures.vault_outcomes c.test_room.ensures.cause
+    (down_alone c.test_room.result c.args.t.node.0 c.test_room.new.store (error_then c.test_room.result _ _ c.test_room.ensures.fault (λ why fault h stop. room_stop c.args.t.node.0 h c.take_if_gone.new.store c.args.x why _ _ _ fault stop)) c.test_room.ensures.down) c.in_ok-take_if_gone.ensures.leaves.up c.test_room.ensures.same c.test_room.ensures.kept))
 
 pub returns-in_err-test_room-clause-open : goal.returns-in_err-test_room-clause-open
 returns-in_err-test_room-clause-open g c =
     let e = the_error c.from_residual-in_err-test_room.result _ c.from_residual-in_err-test_room.ensures.1 in
     unless_pass _ c.test_room.result c.from_residual-in_err-test_room.result e.0 (c.in_err-test_room.was ∙ ap Err (sym e.2)) e.1
-    (unless_then c.test_room.result (λ same. subst (λ (v : Store). KeepsOpen c.args.t c.args.store.now v) (sym same) (open_kept c.args.store.now c.take_if_gone.new.store c.args.t (unless_ok c.take_if_gone.result tt c.in_ok-take_if_gone.was c.take_if_gone.ensures.work) c.requires.busy)) (same_unless c.test_room.result c.take_if_gone.new.store c.test_room.new.self _ _ c.test_room.ensures.same c.test_room.ensures.kept))
+    (unless_then c.test_room.result (λ same. subst (λ (v : Store). KeepsOpen c.args.t c.args.store.now v) (sym same) (open_kept c.args.store.now c.take_if_gone.new.store c.args.t (unless_ok c.take_if_gone.result tt c.in_ok-take_if_gone.was c.take_if_gone.ensures.work) c.requires.busy)) (same_unless c.test_room.result c.take_if_gone.new.store c.test_room.new.store _ _ c.test_room.ensures.same c.test_room.ensures.kept))
 
 pub returns-in_err-test_room-clause-fault : goal.returns-in_err-test_room-clause-fault
 returns-in_err-test_room-clause-fault g c =
@@ -78,8 +78,8 @@ returns-in_err-test_room-clause-fault g c =
 
 pub returns-in_err-test_room-clause-told : goal.returns-in_err-test_room-clause-told
 returns-in_err-test_room-clause-told g c = λ told.
-    passed_on c.from_residual-in_err-test_room.result _ (IsToldOfAbort c.test_room.new.self (g.D.Disk.state c.test_room.new.disk).block c.args.t) c.from_residual-in_err-test_room.ensures.1
-    (λ why same. subst (IsToldOfAbort c.test_room.new.self (g.D.Disk.state c.test_room.new.disk).block c.args.t) (sym same) (room_tells c.take_if_gone.new.store c.test_room.new.self (g.D.Disk.state c.take_if_gone.new.disk).block (g.D.Disk.state c.test_room.new.disk).block c.args.t c.args.x c.in_err-test_room.field-0.0 (IsTrue g.D.Disk.told) told c.test_room.ensures.works.shape c.in_err-test_room.ensures.fault))
+    passed_on c.from_residual-in_err-test_room.result _ (IsToldOfAbort c.test_room.new.store (g.D.Disk.state c.test_room.new.disk).block c.args.t) c.from_residual-in_err-test_room.ensures.1
+    (λ why same. subst (IsToldOfAbort c.test_room.new.store (g.D.Disk.state c.test_room.new.disk).block c.args.t) (sym same) (room_tells c.take_if_gone.new.store c.test_room.new.store (g.D.Disk.state c.take_if_gone.new.disk).block (g.D.Disk.state c.test_room.new.disk).block c.args.t c.args.x c.in_err-test_room.field-0.0 (IsTrue g.D.Disk.told) told c.test_room.ensures.works.shape c.in_err-test_room.ensures.fault))
 
 pub returns-in_err-test_room-clause-stopped : goal.returns-in_err-test_room-clause-stopped
 returns-in_err-test_room-clause-stopped g c = passed_on c.from_residual-in_err-test_room.result _ _ c.from_residual-in_err-test_room.ensures.1 (λ why same told m d w newest write page held shown.
@@ -98,51 +98,51 @@ take_back_one-requires-clause-quiet g c = λ told. (c.test_room.ensures.writes t
 
 pub returns-clause-leaves : goal.returns-clause-leaves
 returns-clause-leaves g c =
-    let up : is_up (node_at c.test_room.new.self.nodes c.args.t.node.0) ≡ true = subst (λ (v : Store). is_up (node_at v.nodes c.args.t.node.0) ≡ true) (sym c.in_ok-test_room.ensures.same.0) c.in_ok-take_if_gone.ensures.leaves.up in
-    leaves_then g.D.Disk.told g.V.Disk.told c.args.t.node.0 c.test_room.result tt c.in_ok-test_room.was c.args.store.now c.test_room.new.self (g.D.Disk.state c.args.disk.now) (g.D.Disk.state c.test_room.new.disk) (g.V.Disk.state c.args.vault.now) (g.V.Disk.state c.test_room.new.vault)
-    (leaves_then g.D.Disk.told g.V.Disk.told c.args.t.node.0 c.take_if_gone.result tt c.in_ok-take_if_gone.was c.args.store.now c.take_if_gone.new.store (g.D.Disk.state c.args.disk.now) (g.D.Disk.state c.take_if_gone.new.disk) (g.V.Disk.state c.args.vault.now) (g.V.Disk.state c.take_if_gone.new.vault) c.take_if_gone.ensures.leaves c.test_room.result c.test_room.new.self (g.D.Disk.state c.test_room.new.disk) (g.V.Disk.state c.test_room.new.vault)
-    (leaves_read g.D.Disk.told g.V.Disk.told c.args.t.node.0 c.test_room.result c.take_if_gone.new.store c.test_room.new.self (g.D.Disk.state c.take_if_gone.new.disk) (g.D.Disk.state c.test_room.new.disk) (g.V.Disk.state c.take_if_gone.new.vault) (g.V.Disk.state c.test_room.new.vault) _ _ c.test_room.ensures.works c.test_room.ensures.writes c.test_room.ensures.vault_outcomes c.test_room.ensures.cause
-    (down_alone c.test_room.result c.args.t.node.0 c.test_room.new.self (error_then c.test_room.result _ _ c.test_room.ensures.fault (λ why fault h stop. room_stop c.args.t.node.0 h c.take_if_gone.new.store c.args.x why _ _ _ fault stop)) c.test_room.ensures.down) c.in_ok-take_if_gone.ensures.leaves.up c.test_room.ensures.same c.test_room.ensures.kept))
+    let up : is_up (node_at c.test_room.new.store.nodes c.args.t.node.0) ≡ true = subst (λ (v : Store). is_up (node_at v.nodes c.args.t.node.0) ≡ true) (sym c.in_ok-test_room.ensures.same.0) c.in_ok-take_if_gone.ensures.leaves.up in
+    leaves_then g.D.Disk.told g.V.Disk.told c.args.t.node.0 c.test_room.result tt c.in_ok-test_room.was c.args.store.now c.test_room.new.store (g.D.Disk.state c.args.disk.now) (g.D.Disk.state c.test_room.new.disk) (g.V.Disk.state c.args.vault.now) (g.V.Disk.state c.test_room.new.vault)
+    (leaves_then g.D.Disk.told g.V.Disk.told c.args.t.node.0 c.take_if_gone.result tt c.in_ok-take_if_gone.was c.args.store.now c.take_if_gone.new.store (g.D.Disk.state c.args.disk.now) (g.D.Disk.state c.take_if_gone.new.disk) (g.V.Disk.state c.args.vault.now) (g.V.Disk.state c.take_if_gone.new.vault) c.take_if_gone.ensures.leaves c.test_room.result c.test_room.new.store (g.D.Disk.state c.test_room.new.disk) (g.V.Disk.state c.test_room.new.vault)
+    (leaves_read g.D.Disk.told g.V.Disk.told c.args.t.node.0 c.test_room.result c.take_if_gone.new.store c.test_room.new.store (g.D.Disk.state c.take_if_gone.new.disk) (g.D.Disk.state c.test_room.new.disk) (g.V.Disk.state c.take_if_gone.new.vault) (g.V.Disk.state c.test_room.new.vault) _ _ c.test_room.ensures.works c.test_room.ensures.writes c.test_room.ensures.vault_outcomes c.test_room.ensures.cause
+    (down_alone c.test_room.result c.args.t.node.0 c.test_room.new.store (error_then c.test_room.result _ _ c.test_room.ensures.fault (λ why fault h stop. room_stop c.args.t.node.0 h c.take_if_gone.new.store c.args.x why _ _ _ fault stop)) c.test_room.ensures.down) c.in_ok-take_if_gone.ensures.leaves.up c.test_room.ensures.same c.test_room.ensures.kept))
     c.take_back_one.result c.take_back_one.new.self (g.D.Disk.state c.take_back_one.new.disk) (g.V.Disk.state c.take_back_one.new.vault)
-    (leaves_alone g.D.Disk.told g.V.Disk.told c.args.t.node.0 c.take_back_one.result c.test_room.new.self c.take_back_one.new.self (g.D.Disk.state c.test_room.new.disk) (g.D.Disk.state c.take_back_one.new.disk) (g.V.Disk.state c.test_room.new.vault) (g.V.Disk.state c.take_back_one.new.vault) c.take_back_one.ensures.works c.take_back_one.ensures.writes c.take_back_one.ensures.vault_outcomes c.take_back_one.ensures.cause
-    (down_alone c.take_back_one.result c.args.t.node.0 c.take_back_one.new.self (error_then c.take_back_one.result _ _ c.take_back_one.ensures.fault (λ why fault h stop. log_stop c.args.t.node.0 h c.test_room.new.self.shape why fault stop)) c.take_back_one.ensures.down) c.take_back_one.ensures.up
-    (holders_back c.take_back_one.result c.test_room.new.self c.take_back_one.new.self c.args.t.node.0 c.test_room.ensures.works.ready.is c.take_back_one.ensures.works.others up c.take_back_one.ensures.up c.take_back_one.ensures.owners c.take_back_one.ensures.kept))
+    (leaves_alone g.D.Disk.told g.V.Disk.told c.args.t.node.0 c.take_back_one.result c.test_room.new.store c.take_back_one.new.self (g.D.Disk.state c.test_room.new.disk) (g.D.Disk.state c.take_back_one.new.disk) (g.V.Disk.state c.test_room.new.vault) (g.V.Disk.state c.take_back_one.new.vault) c.take_back_one.ensures.works c.take_back_one.ensures.writes c.take_back_one.ensures.vault_outcomes c.take_back_one.ensures.cause
+    (down_alone c.take_back_one.result c.args.t.node.0 c.take_back_one.new.self (error_then c.take_back_one.result _ _ c.take_back_one.ensures.fault (λ why fault h stop. log_stop c.args.t.node.0 h c.test_room.new.store.shape why fault stop)) c.take_back_one.ensures.down) c.take_back_one.ensures.up
+    (holders_back c.take_back_one.result c.test_room.new.store c.take_back_one.new.self c.args.t.node.0 c.test_room.ensures.works.ready.is c.take_back_one.ensures.works.others up c.take_back_one.ensures.up c.take_back_one.ensures.owners c.take_back_one.ensures.kept))
 
 pub returns-clause-open : goal.returns-clause-open
 returns-clause-open g c =
-    let mid : KeepsOpen c.args.t c.args.store.now c.test_room.new.self = subst (λ (v : Store). KeepsOpen c.args.t c.args.store.now v) (sym c.in_ok-test_room.ensures.same.0) (open_kept c.args.store.now c.take_if_gone.new.store c.args.t (unless_ok c.take_if_gone.result tt c.in_ok-take_if_gone.was c.take_if_gone.ensures.work) c.requires.busy) in
-    unless_then c.take_back_one.result (open_then c.args.store.now c.test_room.new.self c.take_back_one.new.self c.args.t mid)
-    (open_back c.take_back_one.result c.test_room.new.self c.take_back_one.new.self c.args.t mid.busy c.take_back_one.ensures.up c.take_back_one.ensures.locks c.take_back_one.ensures.reopening c.take_back_one.ensures.busy c.take_back_one.ensures.kept)
+    let mid : KeepsOpen c.args.t c.args.store.now c.test_room.new.store = subst (λ (v : Store). KeepsOpen c.args.t c.args.store.now v) (sym c.in_ok-test_room.ensures.same.0) (open_kept c.args.store.now c.take_if_gone.new.store c.args.t (unless_ok c.take_if_gone.result tt c.in_ok-take_if_gone.was c.take_if_gone.ensures.work) c.requires.busy) in
+    unless_then c.take_back_one.result (open_then c.args.store.now c.test_room.new.store c.take_back_one.new.self c.args.t mid)
+    (open_back c.take_back_one.result c.test_room.new.store c.take_back_one.new.self c.args.t mid.busy c.take_back_one.ensures.up c.take_back_one.ensures.locks c.take_back_one.ensures.reopening c.take_back_one.ensures.busy c.take_back_one.ensures.kept)
 
 pub returns-clause-fault : goal.returns-clause-fault
 returns-clause-fault g c =
-    fault_behind g.D.Disk.told g.V.Disk.told c.args.t.node.0 c.test_room.result tt c.in_ok-test_room.was c.args.store.now c.test_room.new.self (g.D.Disk.state c.args.disk.now) (g.D.Disk.state c.test_room.new.disk) (g.V.Disk.state c.args.vault.now) (g.V.Disk.state c.test_room.new.vault)
-    (leaves_then g.D.Disk.told g.V.Disk.told c.args.t.node.0 c.take_if_gone.result tt c.in_ok-take_if_gone.was c.args.store.now c.take_if_gone.new.store (g.D.Disk.state c.args.disk.now) (g.D.Disk.state c.take_if_gone.new.disk) (g.V.Disk.state c.args.vault.now) (g.V.Disk.state c.take_if_gone.new.vault) c.take_if_gone.ensures.leaves c.test_room.result c.test_room.new.self (g.D.Disk.state c.test_room.new.disk) (g.V.Disk.state c.test_room.new.vault)
-    (leaves_read g.D.Disk.told g.V.Disk.told c.args.t.node.0 c.test_room.result c.take_if_gone.new.store c.test_room.new.self (g.D.Disk.state c.take_if_gone.new.disk) (g.D.Disk.state c.test_room.new.disk) (g.V.Disk.state c.take_if_gone.new.vault) (g.V.Disk.state c.test_room.new.vault) _ _ c.test_room.ensures.works c.test_room.ensures.writes c.test_room.ensures.vault_outcomes c.test_room.ensures.cause
-    (down_alone c.test_room.result c.args.t.node.0 c.test_room.new.self (error_then c.test_room.result _ _ c.test_room.ensures.fault (λ why fault h stop. room_stop c.args.t.node.0 h c.take_if_gone.new.store c.args.x why _ _ _ fault stop)) c.test_room.ensures.down) c.in_ok-take_if_gone.ensures.leaves.up c.test_room.ensures.same c.test_room.ensures.kept))
-    c.take_back_one.result (error_then c.take_back_one.result _ (IsAbortFault c.test_room.new.self c.args.t.node.0) c.take_back_one.ensures.fault (λ why fault. log_fault c.test_room.new.self c.args.t.node.0 why fault))
+    fault_behind g.D.Disk.told g.V.Disk.told c.args.t.node.0 c.test_room.result tt c.in_ok-test_room.was c.args.store.now c.test_room.new.store (g.D.Disk.state c.args.disk.now) (g.D.Disk.state c.test_room.new.disk) (g.V.Disk.state c.args.vault.now) (g.V.Disk.state c.test_room.new.vault)
+    (leaves_then g.D.Disk.told g.V.Disk.told c.args.t.node.0 c.take_if_gone.result tt c.in_ok-take_if_gone.was c.args.store.now c.take_if_gone.new.store (g.D.Disk.state c.args.disk.now) (g.D.Disk.state c.take_if_gone.new.disk) (g.V.Disk.state c.args.vault.now) (g.V.Disk.state c.take_if_gone.new.vault) c.take_if_gone.ensures.leaves c.test_room.result c.test_room.new.store (g.D.Disk.state c.test_room.new.disk) (g.V.Disk.state c.test_room.new.vault)
+    (leaves_read g.D.Disk.told g.V.Disk.told c.args.t.node.0 c.test_room.result c.take_if_gone.new.store c.test_room.new.store (g.D.Disk.state c.take_if_gone.new.disk) (g.D.Disk.state c.test_room.new.disk) (g.V.Disk.state c.take_if_gone.new.vault) (g.V.Disk.state c.test_room.new.vault) _ _ c.test_room.ensures.works c.test_room.ensures.writes c.test_room.ensures.vault_outcomes c.test_room.ensures.cause
+    (down_alone c.test_room.result c.args.t.node.0 c.test_room.new.store (error_then c.test_room.result _ _ c.test_room.ensures.fault (λ why fault h stop. room_stop c.args.t.node.0 h c.take_if_gone.new.store c.args.x why _ _ _ fault stop)) c.test_room.ensures.down) c.in_ok-take_if_gone.ensures.leaves.up c.test_room.ensures.same c.test_room.ensures.kept))
+    c.take_back_one.result (error_then c.take_back_one.result _ (IsAbortFault c.test_room.new.store c.args.t.node.0) c.take_back_one.ensures.fault (λ why fault. log_fault c.test_room.new.store c.args.t.node.0 why fault))
 
 pub returns-clause-told : goal.returns-clause-told
-returns-clause-told g c = λ told. error_then c.take_back_one.result _ (IsToldOfAbort c.take_back_one.new.self (g.D.Disk.state c.take_back_one.new.disk).block c.args.t) c.take_back_one.ensures.fault (λ why fault. log_told c.take_back_one.new.self c.test_room.new.self.shape (g.D.Disk.state c.take_back_one.new.disk).block c.args.t why c.take_back_one.ensures.works.shape fault)
+returns-clause-told g c = λ told. error_then c.take_back_one.result _ (IsToldOfAbort c.take_back_one.new.self (g.D.Disk.state c.take_back_one.new.disk).block c.args.t) c.take_back_one.ensures.fault (λ why fault. log_told c.take_back_one.new.self c.test_room.new.store.shape (g.D.Disk.state c.take_back_one.new.disk).block c.args.t why c.take_back_one.ensures.works.shape fault)
 
 pub returns-clause-fewer : goal.returns-clause-fewer
 returns-clause-fewer g c =
-    let up : is_up (node_at c.test_room.new.self.nodes c.args.t.node.0) ≡ true = subst (λ (v : Store). is_up (node_at v.nodes c.args.t.node.0) ≡ true) (sym c.in_ok-test_room.ensures.same.0) c.in_ok-take_if_gone.ensures.leaves.up in
+    let up : is_up (node_at c.test_room.new.store.nodes c.args.t.node.0) ≡ true = subst (λ (v : Store). is_up (node_at v.nodes c.args.t.node.0) ≡ true) (sym c.in_ok-test_room.ensures.same.0) c.in_ok-take_if_gone.ensures.leaves.up in
     let work = subst (λ (v : Store). KeepsWork c.args.t.node.0 c.args.store.now v) (sym c.in_ok-test_room.ensures.same.0) (unless_ok c.take_if_gone.result tt c.in_ok-take_if_gone.was c.take_if_gone.ensures.work) in
-    on_done c.take_back_one.result c.take_back_one.ensures.fewer (λ less. left_same (node_at c.args.store.now.nodes c.args.t.node.0) (node_at c.test_room.new.self.nodes c.args.t.node.0) (node_at c.take_back_one.new.self.nodes c.args.t.node.0) c.args.t.seat up work.seats less)
+    on_done c.take_back_one.result c.take_back_one.ensures.fewer (λ less. left_same (node_at c.args.store.now.nodes c.args.t.node.0) (node_at c.test_room.new.store.nodes c.args.t.node.0) (node_at c.take_back_one.new.self.nodes c.args.t.node.0) c.args.t.seat up work.seats less)
 
 pub returns-clause-shows : goal.returns-clause-shows
 returns-clause-shows g c = on_done c.take_back_one.result c.take_back_one.ensures.shows (λ shows told m d w newest write page held shown.
-    let cached : HasCached c.test_room.new.self c.args.t.node.0 (record { 0 = w.page }) =
+    let cached : HasCached c.test_room.new.store c.args.t.node.0 (record { 0 = w.page }) =
     subst (λ (v : Store). HasCached v c.args.t.node.0 (record { 0 = w.page })) (sym c.in_ok-test_room.ensures.same.0) (subst (λ k. HasCached c.take_if_gone.new.store c.args.t.node.0 (record { 0 = k })) (sym page) c.in_ok-take_if_gone.ensures.cached) in
-    let now : IsShown c.test_room.new.self (g.D.Disk.state c.test_room.new.disk).block m =
+    let now : IsShown c.test_room.new.store (g.D.Disk.state c.test_room.new.disk).block m =
     subst (λ (v : Store). IsShown v (g.D.Disk.state c.test_room.new.disk).block m) (sym c.in_ok-test_room.ensures.same.0) (subst (λ b. IsShown c.take_if_gone.new.store b m) (sym (c.in_ok-test_room.ensures.same.1 told)) (c.in_ok-take_if_gone.ensures.shows told m held shown)) in
     shows told m d w newest write cached now)
 
 pub returns-clause-stopped : goal.returns-clause-stopped
 returns-clause-stopped g c = error_then c.take_back_one.result _ _ c.take_back_one.ensures.stopped (λ why stop told m d w newest write page held shown.
-    let cached : HasCached c.test_room.new.self c.args.t.node.0 (record { 0 = w.page }) =
+    let cached : HasCached c.test_room.new.store c.args.t.node.0 (record { 0 = w.page }) =
     subst (λ (v : Store). HasCached v c.args.t.node.0 (record { 0 = w.page })) (sym c.in_ok-test_room.ensures.same.0) (subst (λ k. HasCached c.take_if_gone.new.store c.args.t.node.0 (record { 0 = k })) (sym page) c.in_ok-take_if_gone.ensures.cached) in
-    let now : IsShown c.test_room.new.self (g.D.Disk.state c.test_room.new.disk).block m =
+    let now : IsShown c.test_room.new.store (g.D.Disk.state c.test_room.new.disk).block m =
     subst (λ (v : Store). IsShown v (g.D.Disk.state c.test_room.new.disk).block m) (sym c.in_ok-test_room.ensures.same.0) (subst (λ b. IsShown c.take_if_gone.new.store b m) (sym (c.in_ok-test_room.ensures.same.1 told)) (c.in_ok-take_if_gone.ensures.shows told m held shown)) in
     stops c.args.t.node.0 why (stop told m d w newest write cached now))

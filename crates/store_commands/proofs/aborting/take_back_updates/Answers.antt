@@ -39,16 +39,16 @@ update_after-requires-clause-quiet g c = λ told. (c.loop-x.invariant.leaves.wri
 pub returns-in_err-x-clause-leaves : goal.returns-in_err-x-clause-leaves
 returns-in_err-x-clause-leaves g c =
     let e = the_error c.from_residual.result _ c.from_residual.ensures.1 in
-    leaves_pass g.D.Disk.told g.V.Disk.told c.args.t.node.0 c.update_after.result c.from_residual.result e.0 c.args.store.now c.update_after.new.self (g.D.Disk.state c.args.disk.now) (g.D.Disk.state c.update_after.new.disk) (g.V.Disk.state c.args.vault.now) (g.V.Disk.state c.update_after.new.vault) (c.in_err-x.was ∙ ap Err (sym e.2)) e.1
-    (leaves_then g.D.Disk.told g.V.Disk.told c.args.t.node.0 the_done tt refl c.args.store.now c.loop-x.store (g.D.Disk.state c.args.disk.now) (g.D.Disk.state c.loop-x.disk) (g.V.Disk.state c.args.vault.now) (g.V.Disk.state c.loop-x.vault) c.loop-x.invariant.leaves c.update_after.result c.update_after.new.self (g.D.Disk.state c.update_after.new.disk) (g.V.Disk.state c.update_after.new.vault)
-    (leaves_read g.D.Disk.told g.V.Disk.told c.args.t.node.0 c.update_after.result c.loop-x.store c.update_after.new.self (g.D.Disk.state c.loop-x.disk) (g.D.Disk.state c.update_after.new.disk) (g.V.Disk.state c.loop-x.vault) (g.V.Disk.state c.update_after.new.vault) _ _ c.update_after.ensures.works c.update_after.ensures.writes c.update_after.ensures.vault_outcomes c.update_after.ensures.cause
-    (down_alone c.update_after.result c.args.t.node.0 c.update_after.new.self (error_then c.update_after.result _ _ c.update_after.ensures.fault (λ why fault h stop. log_stop c.args.t.node.0 h c.loop-x.store.shape why fault stop)) c.update_after.ensures.down) c.loop-x.invariant.leaves.up c.update_after.ensures.same c.update_after.ensures.kept))
+    leaves_pass g.D.Disk.told g.V.Disk.told c.args.t.node.0 c.update_after.result c.from_residual.result e.0 c.args.store.now c.update_after.new.store (g.D.Disk.state c.args.disk.now) (g.D.Disk.state c.update_after.new.disk) (g.V.Disk.state c.args.vault.now) (g.V.Disk.state c.update_after.new.vault) (c.in_err-x.was ∙ ap Err (sym e.2)) e.1
+    (leaves_then g.D.Disk.told g.V.Disk.told c.args.t.node.0 the_done tt refl c.args.store.now c.loop-x.store (g.D.Disk.state c.args.disk.now) (g.D.Disk.state c.loop-x.disk) (g.V.Disk.state c.args.vault.now) (g.V.Disk.state c.loop-x.vault) c.loop-x.invariant.leaves c.update_after.result c.update_after.new.store (g.D.Disk.state c.update_after.new.disk) (g.V.Disk.state c.update_after.new.vault)
+    (leaves_read g.D.Disk.told g.V.Disk.told c.args.t.node.0 c.update_after.result c.loop-x.store c.update_after.new.store (g.D.Disk.state c.loop-x.disk) (g.D.Disk.state c.update_after.new.disk) (g.V.Disk.state c.loop-x.vault) (g.V.Disk.state c.update_after.new.vault) _ _ c.update_after.ensures.works c.update_after.ensures.writes c.update_after.ensures.vault_outcomes c.update_after.ensures.cause
+    (down_alone c.update_after.result c.args.t.node.0 c.update_after.new.store (error_then c.update_after.result _ _ c.update_after.ensures.fault (λ why fault h stop. log_stop c.args.t.node.0 h c.loop-x.store.shape why fault stop)) c.update_after.ensures.down) c.loop-x.invariant.leaves.up c.update_after.ensures.same c.update_after.ensures.kept))
 
 pub returns-in_err-x-clause-open : goal.returns-in_err-x-clause-open
 returns-in_err-x-clause-open g c =
     let e = the_error c.from_residual.result _ c.from_residual.ensures.1 in
     unless_pass _ c.update_after.result c.from_residual.result e.0 (c.in_err-x.was ∙ ap Err (sym e.2)) e.1
-    (unless_then c.update_after.result (λ same. subst (λ (v : Store). KeepsOpen c.args.t c.args.store.now v) (sym same) c.loop-x.invariant.stays) (same_unless c.update_after.result c.loop-x.store c.update_after.new.self _ _ c.update_after.ensures.same c.update_after.ensures.kept))
+    (unless_then c.update_after.result (λ same. subst (λ (v : Store). KeepsOpen c.args.t c.args.store.now v) (sym same) c.loop-x.invariant.stays) (same_unless c.update_after.result c.loop-x.store c.update_after.new.store _ _ c.update_after.ensures.same c.update_after.ensures.kept))
 
 pub returns-in_err-x-clause-fault : goal.returns-in_err-x-clause-fault
 returns-in_err-x-clause-fault g c =
@@ -57,8 +57,8 @@ returns-in_err-x-clause-fault g c =
 
 pub returns-in_err-x-clause-told : goal.returns-in_err-x-clause-told
 returns-in_err-x-clause-told g c = λ told.
-    passed_on c.from_residual.result _ (IsToldOfAbort c.update_after.new.self (g.D.Disk.state c.update_after.new.disk).block c.args.t) c.from_residual.ensures.1
-    (λ why same. subst (IsToldOfAbort c.update_after.new.self (g.D.Disk.state c.update_after.new.disk).block c.args.t) (sym same) (log_told c.update_after.new.self c.loop-x.store.shape (g.D.Disk.state c.update_after.new.disk).block c.args.t c.in_err-x.field-0.0 c.update_after.ensures.works.shape c.in_err-x.ensures.fault))
+    passed_on c.from_residual.result _ (IsToldOfAbort c.update_after.new.store (g.D.Disk.state c.update_after.new.disk).block c.args.t) c.from_residual.ensures.1
+    (λ why same. subst (IsToldOfAbort c.update_after.new.store (g.D.Disk.state c.update_after.new.disk).block c.args.t) (sym same) (log_told c.update_after.new.store c.loop-x.store.shape (g.D.Disk.state c.update_after.new.disk).block c.args.t c.in_err-x.field-0.0 c.update_after.ensures.works.shape c.in_err-x.ensures.fault))
 
 pub returns-in_err-x-clause-stopped : goal.returns-in_err-x-clause-stopped
 returns-in_err-x-clause-stopped g c = passed_on c.from_residual.result _ _ c.from_residual.ensures.1 (λ why same told m held shown.
@@ -80,24 +80,24 @@ pub returns-in_err-take_back_on-clause-leaves : goal.returns-in_err-take_back_on
 returns-in_err-take_back_on-clause-leaves g c =
     let e = the_error c.from_residual-in_err-take_back_on.result _ c.from_residual-in_err-take_back_on.ensures.1 in
     leaves_pass g.D.Disk.told g.V.Disk.told c.args.t.node.0 c.take_back_on.result c.from_residual-in_err-take_back_on.result e.0 c.args.store.now c.take_back_on.new.store (g.D.Disk.state c.args.disk.now) (g.D.Disk.state c.take_back_on.new.disk) (g.V.Disk.state c.args.vault.now) (g.V.Disk.state c.take_back_on.new.vault) (c.in_err-take_back_on.was ∙ ap Err (sym e.2)) e.1
-    (leaves_then g.D.Disk.told g.V.Disk.told c.args.t.node.0 c.update_after.result c.in_ok-x.field-0 c.in_ok-x.was c.args.store.now c.update_after.new.self (g.D.Disk.state c.args.disk.now) (g.D.Disk.state c.update_after.new.disk) (g.V.Disk.state c.args.vault.now) (g.V.Disk.state c.update_after.new.vault)
-    (leaves_then g.D.Disk.told g.V.Disk.told c.args.t.node.0 the_done tt refl c.args.store.now c.loop-x.store (g.D.Disk.state c.args.disk.now) (g.D.Disk.state c.loop-x.disk) (g.V.Disk.state c.args.vault.now) (g.V.Disk.state c.loop-x.vault) c.loop-x.invariant.leaves c.update_after.result c.update_after.new.self (g.D.Disk.state c.update_after.new.disk) (g.V.Disk.state c.update_after.new.vault)
-    (leaves_read g.D.Disk.told g.V.Disk.told c.args.t.node.0 c.update_after.result c.loop-x.store c.update_after.new.self (g.D.Disk.state c.loop-x.disk) (g.D.Disk.state c.update_after.new.disk) (g.V.Disk.state c.loop-x.vault) (g.V.Disk.state c.update_after.new.vault) _ _ c.update_after.ensures.works c.update_after.ensures.writes c.update_after.ensures.vault_outcomes c.update_after.ensures.cause
-    (down_alone c.update_after.result c.args.t.node.0 c.update_after.new.self (error_then c.update_after.result _ _ c.update_after.ensures.fault (λ why fault h stop. log_stop c.args.t.node.0 h c.loop-x.store.shape why fault stop)) c.update_after.ensures.down) c.loop-x.invariant.leaves.up c.update_after.ensures.same c.update_after.ensures.kept))
+    (leaves_then g.D.Disk.told g.V.Disk.told c.args.t.node.0 c.update_after.result c.in_ok-x.field-0 c.in_ok-x.was c.args.store.now c.update_after.new.store (g.D.Disk.state c.args.disk.now) (g.D.Disk.state c.update_after.new.disk) (g.V.Disk.state c.args.vault.now) (g.V.Disk.state c.update_after.new.vault)
+    (leaves_then g.D.Disk.told g.V.Disk.told c.args.t.node.0 the_done tt refl c.args.store.now c.loop-x.store (g.D.Disk.state c.args.disk.now) (g.D.Disk.state c.loop-x.disk) (g.V.Disk.state c.args.vault.now) (g.V.Disk.state c.loop-x.vault) c.loop-x.invariant.leaves c.update_after.result c.update_after.new.store (g.D.Disk.state c.update_after.new.disk) (g.V.Disk.state c.update_after.new.vault)
+    (leaves_read g.D.Disk.told g.V.Disk.told c.args.t.node.0 c.update_after.result c.loop-x.store c.update_after.new.store (g.D.Disk.state c.loop-x.disk) (g.D.Disk.state c.update_after.new.disk) (g.V.Disk.state c.loop-x.vault) (g.V.Disk.state c.update_after.new.vault) _ _ c.update_after.ensures.works c.update_after.ensures.writes c.update_after.ensures.vault_outcomes c.update_after.ensures.cause
+    (down_alone c.update_after.result c.args.t.node.0 c.update_after.new.store (error_then c.update_after.result _ _ c.update_after.ensures.fault (λ why fault h stop. log_stop c.args.t.node.0 h c.loop-x.store.shape why fault stop)) c.update_after.ensures.down) c.loop-x.invariant.leaves.up c.update_after.ensures.same c.update_after.ensures.kept))
     c.take_back_on.result c.take_back_on.new.store (g.D.Disk.state c.take_back_on.new.disk) (g.V.Disk.state c.take_back_on.new.vault) c.take_back_on.ensures.leaves)
 
 pub returns-in_err-take_back_on-clause-open : goal.returns-in_err-take_back_on-clause-open
 returns-in_err-take_back_on-clause-open g c =
     let e = the_error c.from_residual-in_err-take_back_on.result _ c.from_residual-in_err-take_back_on.ensures.1 in
-    unless_pass _ c.take_back_on.result c.from_residual-in_err-take_back_on.result e.0 (c.in_err-take_back_on.was ∙ ap Err (sym e.2)) e.1 (unless_then c.take_back_on.result (open_then c.args.store.now c.update_after.new.self c.take_back_on.new.store c.args.t (subst (λ (v : Store). KeepsOpen c.args.t c.args.store.now v) (sym c.in_ok-x.ensures.same.0) c.loop-x.invariant.stays)) c.take_back_on.ensures.open)
+    unless_pass _ c.take_back_on.result c.from_residual-in_err-take_back_on.result e.0 (c.in_err-take_back_on.was ∙ ap Err (sym e.2)) e.1 (unless_then c.take_back_on.result (open_then c.args.store.now c.update_after.new.store c.take_back_on.new.store c.args.t (subst (λ (v : Store). KeepsOpen c.args.t c.args.store.now v) (sym c.in_ok-x.ensures.same.0) c.loop-x.invariant.stays)) c.take_back_on.ensures.open)
 
 pub returns-in_err-take_back_on-clause-fault : goal.returns-in_err-take_back_on-clause-fault
 returns-in_err-take_back_on-clause-fault g c =
-    fault_behind g.D.Disk.told g.V.Disk.told c.args.t.node.0 c.update_after.result c.in_ok-x.field-0 c.in_ok-x.was c.args.store.now c.update_after.new.self (g.D.Disk.state c.args.disk.now) (g.D.Disk.state c.update_after.new.disk) (g.V.Disk.state c.args.vault.now) (g.V.Disk.state c.update_after.new.vault)
-    (leaves_then g.D.Disk.told g.V.Disk.told c.args.t.node.0 the_done tt refl c.args.store.now c.loop-x.store (g.D.Disk.state c.args.disk.now) (g.D.Disk.state c.loop-x.disk) (g.V.Disk.state c.args.vault.now) (g.V.Disk.state c.loop-x.vault) c.loop-x.invariant.leaves c.update_after.result c.update_after.new.self (g.D.Disk.state c.update_after.new.disk) (g.V.Disk.state c.update_after.new.vault)
-    (leaves_read g.D.Disk.told g.V.Disk.told c.args.t.node.0 c.update_after.result c.loop-x.store c.update_after.new.self (g.D.Disk.state c.loop-x.disk) (g.D.Disk.state c.update_after.new.disk) (g.V.Disk.state c.loop-x.vault) (g.V.Disk.state c.update_after.new.vault) _ _ c.update_after.ensures.works c.update_after.ensures.writes c.update_after.ensures.vault_outcomes c.update_after.ensures.cause
-    (down_alone c.update_after.result c.args.t.node.0 c.update_after.new.self (error_then c.update_after.result _ _ c.update_after.ensures.fault (λ why fault h stop. log_stop c.args.t.node.0 h c.loop-x.store.shape why fault stop)) c.update_after.ensures.down) c.loop-x.invariant.leaves.up c.update_after.ensures.same c.update_after.ensures.kept))
-    c.from_residual-in_err-take_back_on.result (passed_on c.from_residual-in_err-take_back_on.result _ (IsAbortFault c.update_after.new.self c.args.t.node.0) c.from_residual-in_err-take_back_on.ensures.1 (λ why same. subst (IsAbortFault c.update_after.new.self c.args.t.node.0) (sym same) c.in_err-take_back_on.ensures.fault))
+    fault_behind g.D.Disk.told g.V.Disk.told c.args.t.node.0 c.update_after.result c.in_ok-x.field-0 c.in_ok-x.was c.args.store.now c.update_after.new.store (g.D.Disk.state c.args.disk.now) (g.D.Disk.state c.update_after.new.disk) (g.V.Disk.state c.args.vault.now) (g.V.Disk.state c.update_after.new.vault)
+    (leaves_then g.D.Disk.told g.V.Disk.told c.args.t.node.0 the_done tt refl c.args.store.now c.loop-x.store (g.D.Disk.state c.args.disk.now) (g.D.Disk.state c.loop-x.disk) (g.V.Disk.state c.args.vault.now) (g.V.Disk.state c.loop-x.vault) c.loop-x.invariant.leaves c.update_after.result c.update_after.new.store (g.D.Disk.state c.update_after.new.disk) (g.V.Disk.state c.update_after.new.vault)
+    (leaves_read g.D.Disk.told g.V.Disk.told c.args.t.node.0 c.update_after.result c.loop-x.store c.update_after.new.store (g.D.Disk.state c.loop-x.disk) (g.D.Disk.state c.update_after.new.disk) (g.V.Disk.state c.loop-x.vault) (g.V.Disk.state c.update_after.new.vault) _ _ c.update_after.ensures.works c.update_after.ensures.writes c.update_after.ensures.vault_outcomes c.update_after.ensures.cause
+    (down_alone c.update_after.result c.args.t.node.0 c.update_after.new.store (error_then c.update_after.result _ _ c.update_after.ensures.fault (λ why fault h stop. log_stop c.args.t.node.0 h c.loop-x.store.shape why fault stop)) c.update_after.ensures.down) c.loop-x.invariant.leaves.up c.update_after.ensures.same c.update_after.ensures.kept))
+    c.from_residual-in_err-take_back_on.result (passed_on c.from_residual-in_err-take_back_on.result _ (IsAbortFault c.update_after.new.store c.args.t.node.0) c.from_residual-in_err-take_back_on.ensures.1 (λ why same. subst (IsAbortFault c.update_after.new.store c.args.t.node.0) (sym same) c.in_err-take_back_on.ensures.fault))
 
 pub returns-in_err-take_back_on-clause-told : goal.returns-in_err-take_back_on-clause-told
 returns-in_err-take_back_on-clause-told g c = λ told.
@@ -109,24 +109,24 @@ returns-in_err-take_back_on-clause-stopped g c = passed_on c.from_residual-in_er
     let k : Machine = was.now in
     let new = subst (λ o. MatchOption o (newest_of k c.args.t ≡ None) (λ v. (d : Deed) × (w : Write) × (newest_of k c.args.t ≡ Some d) × (d.write ≡ Some w) × (w.page ≡ v.1.0))) c.in-Some.is (c.in_ok-x.ensures.newest refl told k was.shown) in
     let both : HoldsBoth k c.args.t.node.0 c.in-Some.x = subst (λ i. HoldsBoth k c.args.t.node.0 (record { 0 = i })) new.4 (holds_newest k c.args.t new.0 new.2 new.1 new.3 was.held) in
-    let now : IsShown c.update_after.new.self (g.D.Disk.state c.update_after.new.disk).block k = subst (λ (v : Store). IsShown v (g.D.Disk.state c.update_after.new.disk).block k) (sym c.in_ok-x.ensures.same.0) (subst (λ b. IsShown c.loop-x.store b k) (sym (c.in_ok-x.ensures.same.1 told)) was.shown) in
+    let now : IsShown c.update_after.new.store (g.D.Disk.state c.update_after.new.disk).block k = subst (λ (v : Store). IsShown v (g.D.Disk.state c.update_after.new.disk).block k) (sym c.in_ok-x.ensures.same.0) (subst (λ b. IsShown c.loop-x.store b k) (sym (c.in_ok-x.ensures.same.1 told)) was.shown) in
     subst (λ r. says_stop r ≡ true) (sym same) (c.in_err-take_back_on.ensures.stopped told k new.0 new.1 new.2 new.3 new.4 both now))
 
 pub loop-x-preserved : goal.loop-x-preserved
 loop-x-preserved g c = record {
   leaves = leaves_value g.D.Disk.told g.V.Disk.told c.args.t.node.0 c.take_back_on.result tt c.in_ok-take_back_on.was c.args.store.now c.take_back_on.new.store (g.D.Disk.state c.args.disk.now) (g.D.Disk.state c.take_back_on.new.disk) (g.V.Disk.state c.args.vault.now) (g.V.Disk.state c.take_back_on.new.vault)
-      (leaves_then g.D.Disk.told g.V.Disk.told c.args.t.node.0 c.update_after.result c.in_ok-x.field-0 c.in_ok-x.was c.args.store.now c.update_after.new.self (g.D.Disk.state c.args.disk.now) (g.D.Disk.state c.update_after.new.disk) (g.V.Disk.state c.args.vault.now) (g.V.Disk.state c.update_after.new.vault)
-      (leaves_then g.D.Disk.told g.V.Disk.told c.args.t.node.0 the_done tt refl c.args.store.now c.loop-x.store (g.D.Disk.state c.args.disk.now) (g.D.Disk.state c.loop-x.disk) (g.V.Disk.state c.args.vault.now) (g.V.Disk.state c.loop-x.vault) c.loop-x.invariant.leaves c.update_after.result c.update_after.new.self (g.D.Disk.state c.update_after.new.disk) (g.V.Disk.state c.update_after.new.vault)
-      (leaves_read g.D.Disk.told g.V.Disk.told c.args.t.node.0 c.update_after.result c.loop-x.store c.update_after.new.self (g.D.Disk.state c.loop-x.disk) (g.D.Disk.state c.update_after.new.disk) (g.V.Disk.state c.loop-x.vault) (g.V.Disk.state c.update_after.new.vault) _ _ c.update_after.ensures.works c.update_after.ensures.writes c.update_after.ensures.vault_outcomes c.update_after.ensures.cause
-      (down_alone c.update_after.result c.args.t.node.0 c.update_after.new.self (error_then c.update_after.result _ _ c.update_after.ensures.fault (λ why fault h stop. log_stop c.args.t.node.0 h c.loop-x.store.shape why fault stop)) c.update_after.ensures.down) c.loop-x.invariant.leaves.up c.update_after.ensures.same c.update_after.ensures.kept))
+      (leaves_then g.D.Disk.told g.V.Disk.told c.args.t.node.0 c.update_after.result c.in_ok-x.field-0 c.in_ok-x.was c.args.store.now c.update_after.new.store (g.D.Disk.state c.args.disk.now) (g.D.Disk.state c.update_after.new.disk) (g.V.Disk.state c.args.vault.now) (g.V.Disk.state c.update_after.new.vault)
+      (leaves_then g.D.Disk.told g.V.Disk.told c.args.t.node.0 the_done tt refl c.args.store.now c.loop-x.store (g.D.Disk.state c.args.disk.now) (g.D.Disk.state c.loop-x.disk) (g.V.Disk.state c.args.vault.now) (g.V.Disk.state c.loop-x.vault) c.loop-x.invariant.leaves c.update_after.result c.update_after.new.store (g.D.Disk.state c.update_after.new.disk) (g.V.Disk.state c.update_after.new.vault)
+      (leaves_read g.D.Disk.told g.V.Disk.told c.args.t.node.0 c.update_after.result c.loop-x.store c.update_after.new.store (g.D.Disk.state c.loop-x.disk) (g.D.Disk.state c.update_after.new.disk) (g.V.Disk.state c.loop-x.vault) (g.V.Disk.state c.update_after.new.vault) _ _ c.update_after.ensures.works c.update_after.ensures.writes c.update_after.ensures.vault_outcomes c.update_after.ensures.cause
+      (down_alone c.update_after.result c.args.t.node.0 c.update_after.new.store (error_then c.update_after.result _ _ c.update_after.ensures.fault (λ why fault h stop. log_stop c.args.t.node.0 h c.loop-x.store.shape why fault stop)) c.update_after.ensures.down) c.loop-x.invariant.leaves.up c.update_after.ensures.same c.update_after.ensures.kept))
       c.take_back_on.result c.take_back_on.new.store (g.D.Disk.state c.take_back_on.new.disk) (g.V.Disk.state c.take_back_on.new.vault) c.take_back_on.ensures.leaves) tt;
-  stays = open_then c.args.store.now c.update_after.new.self c.take_back_on.new.store c.args.t (subst (λ (v : Store). KeepsOpen c.args.t c.args.store.now v) (sym c.in_ok-x.ensures.same.0) c.loop-x.invariant.stays) (unless_ok c.take_back_on.result tt c.in_ok-take_back_on.was c.take_back_on.ensures.open);
+  stays = open_then c.args.store.now c.update_after.new.store c.take_back_on.new.store c.args.t (subst (λ (v : Store). KeepsOpen c.args.t c.args.store.now v) (sym c.in_ok-x.ensures.same.0) c.loop-x.invariant.stays) (unless_ok c.take_back_on.result tt c.in_ok-take_back_on.was c.take_back_on.ensures.open);
   shows = λ told m held shown.
       let was = c.loop-x.invariant.shows told m held shown in
       let k : Machine = was.now in
       let new = subst (λ o. MatchOption o (newest_of k c.args.t ≡ None) (λ v. (d : Deed) × (w : Write) × (newest_of k c.args.t ≡ Some d) × (d.write ≡ Some w) × (w.page ≡ v.1.0))) c.in-Some.is (c.in_ok-x.ensures.newest refl told k was.shown) in
       let both : HoldsBoth k c.args.t.node.0 c.in-Some.x = subst (λ i. HoldsBoth k c.args.t.node.0 (record { 0 = i })) new.4 (holds_newest k c.args.t new.0 new.2 new.1 new.3 was.held) in
-      let now : IsShown c.update_after.new.self (g.D.Disk.state c.update_after.new.disk).block k = subst (λ (v : Store). IsShown v (g.D.Disk.state c.update_after.new.disk).block k) (sym c.in_ok-x.ensures.same.0) (subst (λ b. IsShown c.loop-x.store b k) (sym (c.in_ok-x.ensures.same.1 told)) was.shown) in
+      let now : IsShown c.update_after.new.store (g.D.Disk.state c.update_after.new.disk).block k = subst (λ (v : Store). IsShown v (g.D.Disk.state c.update_after.new.disk).block k) (sym c.in_ok-x.ensures.same.0) (subst (λ b. IsShown c.loop-x.store b k) (sym (c.in_ok-x.ensures.same.1 told)) was.shown) in
       one_back k c.args.t new.0 new.2 m (IsShown c.take_back_on.new.store (g.D.Disk.state c.take_back_on.new.disk).block) was.held was.rest (c.in_ok-take_back_on.ensures.shows told k new.0 new.1 new.2 new.3 new.4 both now);
 }
 
@@ -140,10 +140,10 @@ loop-x-smaller g c =
 
 pub returns-clause-leaves : goal.returns-clause-leaves
 returns-clause-leaves g c =
-    leaves_value g.D.Disk.told g.V.Disk.told c.args.t.node.0 c.update_after.result c.in_ok-x.field-0 c.in_ok-x.was c.args.store.now c.update_after.new.self (g.D.Disk.state c.args.disk.now) (g.D.Disk.state c.update_after.new.disk) (g.V.Disk.state c.args.vault.now) (g.V.Disk.state c.update_after.new.vault)
-    (leaves_then g.D.Disk.told g.V.Disk.told c.args.t.node.0 the_done tt refl c.args.store.now c.loop-x.store (g.D.Disk.state c.args.disk.now) (g.D.Disk.state c.loop-x.disk) (g.V.Disk.state c.args.vault.now) (g.V.Disk.state c.loop-x.vault) c.loop-x.invariant.leaves c.update_after.result c.update_after.new.self (g.D.Disk.state c.update_after.new.disk) (g.V.Disk.state c.update_after.new.vault)
-    (leaves_read g.D.Disk.told g.V.Disk.told c.args.t.node.0 c.update_after.result c.loop-x.store c.update_after.new.self (g.D.Disk.state c.loop-x.disk) (g.D.Disk.state c.update_after.new.disk) (g.V.Disk.state c.loop-x.vault) (g.V.Disk.state c.update_after.new.vault) _ _ c.update_after.ensures.works c.update_after.ensures.writes c.update_after.ensures.vault_outcomes c.update_after.ensures.cause
-    (down_alone c.update_after.result c.args.t.node.0 c.update_after.new.self (error_then c.update_after.result _ _ c.update_after.ensures.fault (λ why fault h stop. log_stop c.args.t.node.0 h c.loop-x.store.shape why fault stop)) c.update_after.ensures.down) c.loop-x.invariant.leaves.up c.update_after.ensures.same c.update_after.ensures.kept)) tt
+    leaves_value g.D.Disk.told g.V.Disk.told c.args.t.node.0 c.update_after.result c.in_ok-x.field-0 c.in_ok-x.was c.args.store.now c.update_after.new.store (g.D.Disk.state c.args.disk.now) (g.D.Disk.state c.update_after.new.disk) (g.V.Disk.state c.args.vault.now) (g.V.Disk.state c.update_after.new.vault)
+    (leaves_then g.D.Disk.told g.V.Disk.told c.args.t.node.0 the_done tt refl c.args.store.now c.loop-x.store (g.D.Disk.state c.args.disk.now) (g.D.Disk.state c.loop-x.disk) (g.V.Disk.state c.args.vault.now) (g.V.Disk.state c.loop-x.vault) c.loop-x.invariant.leaves c.update_after.result c.update_after.new.store (g.D.Disk.state c.update_after.new.disk) (g.V.Disk.state c.update_after.new.vault)
+    (leaves_read g.D.Disk.told g.V.Disk.told c.args.t.node.0 c.update_after.result c.loop-x.store c.update_after.new.store (g.D.Disk.state c.loop-x.disk) (g.D.Disk.state c.update_after.new.disk) (g.V.Disk.state c.loop-x.vault) (g.V.Disk.state c.update_after.new.vault) _ _ c.update_after.ensures.works c.update_after.ensures.writes c.update_after.ensures.vault_outcomes c.update_after.ensures.cause
+    (down_alone c.update_after.result c.args.t.node.0 c.update_after.new.store (error_then c.update_after.result _ _ c.update_after.ensures.fault (λ why fault h stop. log_stop c.args.t.node.0 h c.loop-x.store.shape why fault stop)) c.update_after.ensures.down) c.loop-x.invariant.leaves.up c.update_after.ensures.same c.update_after.ensures.kept)) tt
 
 pub returns-clause-open : goal.returns-clause-open
 returns-clause-open g c = (subst (λ (v : Store). KeepsOpen c.args.t c.args.store.now v) (sym c.in_ok-x.ensures.same.0) c.loop-x.invariant.stays)

@@ -61,14 +61,14 @@ test_room-requires-clause-quiet g c = λ told. (c.take_update.ensures.leaves.wri
 
 pub returns-clause-leaves : goal.returns-clause-leaves
 returns-clause-leaves g c =
-    leaves_then g.D.Disk.told g.V.Disk.told c.args.t.node.0 c.take_update.result tt c.in_ok-take_update.was c.args.store.now c.take_update.new.store (g.D.Disk.state c.args.disk.now) (g.D.Disk.state c.take_update.new.disk) (g.V.Disk.state c.args.vault.now) (g.V.Disk.state c.take_update.new.vault) c.take_update.ensures.leaves c.test_room.result c.test_room.new.self (g.D.Disk.state c.test_room.new.disk) (g.V.Disk.state c.test_room.new.vault)
-    (leaves_read g.D.Disk.told g.V.Disk.told c.args.t.node.0 c.test_room.result c.take_update.new.store c.test_room.new.self (g.D.Disk.state c.take_update.new.disk) (g.D.Disk.state c.test_room.new.disk) (g.V.Disk.state c.take_update.new.vault) (g.V.Disk.state c.test_room.new.vault) _ _ c.test_room.ensures.works c.test_room.ensures.writes c.test_room.ensures.vault_outcomes c.test_room.ensures.cause
-    (down_alone c.test_room.result c.args.t.node.0 c.test_room.new.self (error_then c.test_room.result _ _ c.test_room.ensures.fault (λ why fault h stop. room_stop c.args.t.node.0 h c.take_update.new.store c.args.x why _ _ _ fault stop)) c.test_room.ensures.down) (c.in_ok-take_update.ensures.leaves.up) c.test_room.ensures.same c.test_room.ensures.kept)
+    leaves_then g.D.Disk.told g.V.Disk.told c.args.t.node.0 c.take_update.result tt c.in_ok-take_update.was c.args.store.now c.take_update.new.store (g.D.Disk.state c.args.disk.now) (g.D.Disk.state c.take_update.new.disk) (g.V.Disk.state c.args.vault.now) (g.V.Disk.state c.take_update.new.vault) c.take_update.ensures.leaves c.test_room.result c.test_room.new.store (g.D.Disk.state c.test_room.new.disk) (g.V.Disk.state c.test_room.new.vault)
+    (leaves_read g.D.Disk.told g.V.Disk.told c.args.t.node.0 c.test_room.result c.take_update.new.store c.test_room.new.store (g.D.Disk.state c.take_update.new.disk) (g.D.Disk.state c.test_room.new.disk) (g.V.Disk.state c.take_update.new.vault) (g.V.Disk.state c.test_room.new.vault) _ _ c.test_room.ensures.works c.test_room.ensures.writes c.test_room.ensures.vault_outcomes c.test_room.ensures.cause
+    (down_alone c.test_room.result c.args.t.node.0 c.test_room.new.store (error_then c.test_room.result _ _ c.test_room.ensures.fault (λ why fault h stop. room_stop c.args.t.node.0 h c.take_update.new.store c.args.x why _ _ _ fault stop)) c.test_room.ensures.down) (c.in_ok-take_update.ensures.leaves.up) c.test_room.ensures.same c.test_room.ensures.kept)
 
 pub returns-clause-work : goal.returns-clause-work
 returns-clause-work g c =
     let first = unless_ok c.take_update.result tt c.in_ok-take_update.was c.take_update.ensures.work in
-    unless_then c.test_room.result (λ same. subst (λ (v : Store). KeepsWork c.args.t.node.0 c.args.store.now v) (sym same) first) (same_unless c.test_room.result c.take_update.new.store c.test_room.new.self _ _ c.test_room.ensures.same c.test_room.ensures.kept)
+    unless_then c.test_room.result (λ same. subst (λ (v : Store). KeepsWork c.args.t.node.0 c.args.store.now v) (sym same) first) (same_unless c.test_room.result c.take_update.new.store c.test_room.new.store _ _ c.test_room.ensures.same c.test_room.ensures.kept)
 
 pub returns-clause-fault : goal.returns-clause-fault
 returns-clause-fault g c =
@@ -78,14 +78,14 @@ returns-clause-fault g c =
 
 pub returns-clause-told : goal.returns-clause-told
 returns-clause-told g c = λ told.
-    error_then c.test_room.result _ (IsToldOfAbort c.test_room.new.self (g.D.Disk.state c.test_room.new.disk).block c.args.t) c.test_room.ensures.fault
-    (λ why fault. room_tells c.take_update.new.store c.test_room.new.self (g.D.Disk.state c.take_update.new.disk).block (g.D.Disk.state c.test_room.new.disk).block c.args.t c.args.x why (IsTrue g.D.Disk.told) told c.test_room.ensures.works.shape fault)
+    error_then c.test_room.result _ (IsToldOfAbort c.test_room.new.store (g.D.Disk.state c.test_room.new.disk).block c.args.t) c.test_room.ensures.fault
+    (λ why fault. room_tells c.take_update.new.store c.test_room.new.store (g.D.Disk.state c.take_update.new.disk).block (g.D.Disk.state c.test_room.new.disk).block c.args.t c.args.x why (IsTrue g.D.Disk.told) told c.test_room.ensures.works.shape fault)
 
 pub returns-clause-step : goal.returns-clause-step
 returns-clause-step g c = λ told m shown.
     let ps : List Part = takes_page c.args.store.now.shape c.args.t.node.0 c.args.x in
     let all = done_on m ps c.take_update.result tt (IsShown c.take_update.new.store (g.D.Disk.state c.take_update.new.disk).block) c.in_ok-take_update.was (c.take_update.ensures.step told m shown) in
-    let S : Machine → Type 0 = IsShown c.test_room.new.self (g.D.Disk.state c.test_room.new.disk).block in
+    let S : Machine → Type 0 = IsShown c.test_room.new.store (g.D.Disk.state c.test_room.new.disk).block in
     sure_step c.test_room.result (S (dos ps m)) m ps S all.0
     (error_then c.test_room.result _ (λ why. says_stop why ≡ true) c.test_room.ensures.stopped (λ why stop. stops c.args.t.node.0 why (stop told (dos ps m) all.1)))
     (on_done c.test_room.result c.test_room.ensures.same (λ same. subst (λ (v : Store). IsShown v (g.D.Disk.state c.test_room.new.disk).block (dos ps m)) (sym same.0) (subst (λ b. IsShown c.take_update.new.store b (dos ps m)) (sym (same.1 told)) all.1)))

@@ -35,9 +35,9 @@ returns-in_err-take-clause-takes g c =
     let v' = g.V.Disk.state c.loop-x.vault in
     let d'' = g.D.Disk.state c.take.new.disk in
     let v'' = g.V.Disk.state c.take.new.vault in
-    takes_behind c.args.n.0 c.loop-x.least c.from_residual.result (IsTrue g.D.Disk.told) (IsTrue g.V.Disk.told) c.args.store.now c.loop-x.store c.take.new.self (g.D.Disk.state c.args.disk.now) d' d'' (g.V.Disk.state c.args.vault.now) v' v'' c.loop-x.invariant.takes
-    (takes_pass c.args.n.0 c.take.result c.from_residual.result e.0 (IsTrue g.D.Disk.told) (IsTrue g.V.Disk.told) c.loop-x.store c.take.new.self d' d'' v' v'' (c.in_err-take.was ∙ ap Err (sym e.2)) e.1
-    (page_taken c.args.n.0 (record { 0 = c.loop-x.x }) c.take.result (IsTrue g.D.Disk.told) (IsTrue g.V.Disk.told) c.loop-x.store c.take.new.self d' d'' v' v'' c.loop-x.invariant.takes.works.ready.is (subst (λ s. c.loop-x.x < page_count s) (sym c.loop-x.invariant.takes.works.shape) (omega (arith, c.loop-x-test.true)))
+    takes_behind c.args.n.0 c.loop-x.least c.from_residual.result (IsTrue g.D.Disk.told) (IsTrue g.V.Disk.told) c.args.store.now c.loop-x.store c.take.new.store (g.D.Disk.state c.args.disk.now) d' d'' (g.V.Disk.state c.args.vault.now) v' v'' c.loop-x.invariant.takes
+    (takes_pass c.args.n.0 c.take.result c.from_residual.result e.0 (IsTrue g.D.Disk.told) (IsTrue g.V.Disk.told) c.loop-x.store c.take.new.store d' d'' v' v'' (c.in_err-take.was ∙ ap Err (sym e.2)) e.1
+    (page_taken c.args.n.0 (record { 0 = c.loop-x.x }) c.take.result (IsTrue g.D.Disk.told) (IsTrue g.V.Disk.told) c.loop-x.store c.take.new.store d' d'' v' v'' c.loop-x.invariant.takes.works.ready.is (subst (λ s. c.loop-x.x < page_count s) (sym c.loop-x.invariant.takes.works.shape) (omega (arith, c.loop-x-test.true)))
     c.take.ensures.works c.take.ensures.writes c.take.ensures.vault_outcomes c.take.ensures.cause c.take.ensures.fault c.take.ensures.told c.take.ensures.down c.take.ensures.up c.take.ensures.work c.take.ensures.holders))
 
 -- what the machine does as it is taken, or why it doesn't
@@ -46,7 +46,7 @@ returns-in_err-take-clause-step g c = λ told m shown.
     let e = the_error c.from_residual.result _ c.from_residual.ensures.1 in
     let before = c.loop-x.invariant.step told m shown in
     let S : Machine → Type 0 = IsShown c.loop-x.store (g.D.Disk.state c.loop-x.disk).block in
-    let R : Machine → Type 0 = IsShown c.take.new.self (g.D.Disk.state c.take.new.disk).block in
+    let R : Machine → Type 0 = IsShown c.take.new.store (g.D.Disk.state c.take.new.disk).block in
     let up = mode_up c.args.store.now c.args.n.0 (g.D.Disk.state c.args.disk.now).block m c.requires.ready.is c.requires.node c.requires.up shown in
     let near : c.loop-x.x < m.shape.maps = subst (λ s. c.loop-x.x < s.maps) (sym shown.1.nodes.shape) c.loop-x-test.true in
     dumps_pass m c.args.n c.take.result c.from_residual.result e.0 R _ _ (c.in_err-take.was ∙ ap Err (sym e.2)) e.1
@@ -66,16 +66,16 @@ loop-x-preserved g c =
     let d'' = g.D.Disk.state c.take.new.disk in
     let v'' = g.V.Disk.state c.take.new.vault in
     record {
-      takes = takes_behind n c.loop-x.least (Ok c.next_group-least.result) (IsTrue g.D.Disk.told) (IsTrue g.V.Disk.told) c.args.store.now c.loop-x.store c.take.new.self (g.D.Disk.state c.args.disk.now) d' d'' (g.V.Disk.state c.args.vault.now) v' v'' c.loop-x.invariant.takes
-          (takes_done n c.take.result tt c.next_group-least.result (IsTrue g.D.Disk.told) (IsTrue g.V.Disk.told) c.loop-x.store c.take.new.self d' d'' v' v'' c.in_ok-take.was
-          (page_taken n (record { 0 = c.loop-x.x }) c.take.result (IsTrue g.D.Disk.told) (IsTrue g.V.Disk.told) c.loop-x.store c.take.new.self d' d'' v' v'' c.loop-x.invariant.takes.works.ready.is (subst (λ s. c.loop-x.x < page_count s) (sym c.loop-x.invariant.takes.works.shape) (omega (arith, c.loop-x-test.true)))
+      takes = takes_behind n c.loop-x.least (Ok c.next_group-least.result) (IsTrue g.D.Disk.told) (IsTrue g.V.Disk.told) c.args.store.now c.loop-x.store c.take.new.store (g.D.Disk.state c.args.disk.now) d' d'' (g.V.Disk.state c.args.vault.now) v' v'' c.loop-x.invariant.takes
+          (takes_done n c.take.result tt c.next_group-least.result (IsTrue g.D.Disk.told) (IsTrue g.V.Disk.told) c.loop-x.store c.take.new.store d' d'' v' v'' c.in_ok-take.was
+          (page_taken n (record { 0 = c.loop-x.x }) c.take.result (IsTrue g.D.Disk.told) (IsTrue g.V.Disk.told) c.loop-x.store c.take.new.store d' d'' v' v'' c.loop-x.invariant.takes.works.ready.is (subst (λ s. c.loop-x.x < page_count s) (sym c.loop-x.invariant.takes.works.shape) (omega (arith, c.loop-x-test.true)))
           c.take.ensures.works c.take.ensures.writes c.take.ensures.vault_outcomes c.take.ensures.cause c.take.ensures.fault c.take.ensures.told c.take.ensures.down c.take.ensures.up c.take.ensures.work c.take.ensures.holders));
       low = c.next_group-least.ensures.within.0;
       high = omega (arith, c.next_group-least.ensures.within.1, c.loop-x.invariant.high);
       step = λ told m shown.
           let before = c.loop-x.invariant.step told m shown in
           let S : Machine → Type 0 = IsShown c.loop-x.store d'.block in
-          let R : Machine → Type 0 = IsShown c.take.new.self d''.block in
+          let R : Machine → Type 0 = IsShown c.take.new.store d''.block in
           let up = mode_up c.args.store.now n (g.D.Disk.state c.args.disk.now).block m c.requires.ready.is c.requires.node c.requires.up shown in
           let near : c.loop-x.x < m.shape.maps = subst (λ s. c.loop-x.x < s.maps) (sym shown.1.nodes.shape) c.loop-x-test.true in
           let that = page_dumped m c.args.n c.loop-x.x (held_in c.loop-x.store (record { 0 = c.loop-x.x })) c.take.result S R up before.1 (inl near)
@@ -86,7 +86,7 @@ loop-x-preserved g c =
           let taken : TakesPages m c.args.n R = (dumps_done m c.args.n c.take.result tt R (λ done. ⊤) c.in_ok-take.was that).1 in
           let there = c.next_group-least.ensures.there in
           let shape = c.take.ensures.works.shape ∙ c.loop-x.invariant.takes.works.shape in
-          (more_below c.take.new.self n d''.block m taken.pages c.take.ensures.works.ready.is c.requires.node c.in_ok-take.ensures.up taken.after c.loop-x.x c.args.first c.loop-x.least c.next_group-least.result there.0 (subst (λ s. c.loop-x.x < s.maps) (sym shape) c.loop-x-test.true) c.next_group-least.ensures.within.1 there.1 (c.next_group-least.ensures.none there.0 there.1) before.0, taken);
+          (more_below c.take.new.store n d''.block m taken.pages c.take.ensures.works.ready.is c.requires.node c.in_ok-take.ensures.up taken.after c.loop-x.x c.args.first c.loop-x.least c.next_group-least.result there.0 (subst (λ s. c.loop-x.x < s.maps) (sym shape) c.loop-x-test.true) c.next_group-least.ensures.within.1 there.1 (c.next_group-least.ensures.none there.0 there.1) before.0, taken);
     }
 
 pub returns-clause-step : goal.returns-clause-step

@@ -31,17 +31,17 @@ take-requires-clause-entry g c =
 
 -- what the machine does, or why it doesn't
 take_err : (g : given.Over) (c : goal.After-from_residual g) → IsTrue g.D.Disk.told → (m : Machine) → IsShown c.args.store.now (g.D.Disk.state c.args.disk.now).block m
-    → UnlessStop c.take.result (UnlessHeld m (Take c.data_page-x.result.0 c.args.n.0 ∷ []) c.take.result (IsShown c.take.new.self (g.D.Disk.state c.take.new.disk).block) (IsOk c.take.result × IsShown c.take.new.self (g.D.Disk.state c.take.new.disk).block (one (Take c.data_page-x.result.0 c.args.n.0) m)))
+    → UnlessStop c.take.result (UnlessHeld m (Take c.data_page-x.result.0 c.args.n.0 ∷ []) c.take.result (IsShown c.take.new.store (g.D.Disk.state c.take.new.disk).block) (IsOk c.take.result × IsShown c.take.new.store (g.D.Disk.state c.take.new.disk).block (one (Take c.data_page-x.result.0 c.args.n.0) m)))
 take_err g c told m shown =
-    page_step m c.data_page-x.result.0 c.args.n.0 (held_in c.args.store.now c.data_page-x.result) c.take.result (IsShown c.take.new.self (g.D.Disk.state c.take.new.disk).block) (c.take.ensures.refused told m shown)
+    page_step m c.data_page-x.result.0 c.args.n.0 (held_in c.args.store.now c.data_page-x.result) c.take.result (IsShown c.take.new.store (g.D.Disk.state c.take.new.disk).block) (c.take.ensures.refused told m shown)
     (some_then (held_in c.args.store.now c.data_page-x.result) _ _ c.take.ensures.held (λ why same. (same.0, subst (λ v. IsShown v (g.D.Disk.state c.take.new.disk).block m) (sym same.1) (subst (λ d. IsShown c.args.store.now (g.D.Disk.state d).block m) (sym same.2) shown))))
     (λ free. error_then c.take.result _ (λ why. says_stop why ≡ true) c.take.ensures.stopped (λ why stops. stops told m shown free))
     (on_done c.take.result c.take.ensures.shows (λ shows. shows told m shown))
 
 take_ok : (g : given.Over) (c : goal.In_ok-take g) → IsTrue g.D.Disk.told → (m : Machine) → IsShown c.args.store.now (g.D.Disk.state c.args.disk.now).block m
-    → UnlessStop c.take.result (UnlessHeld m (Take c.data_page-x.result.0 c.args.n.0 ∷ []) c.take.result (IsShown c.take.new.self (g.D.Disk.state c.take.new.disk).block) (IsOk c.take.result × IsShown c.take.new.self (g.D.Disk.state c.take.new.disk).block (one (Take c.data_page-x.result.0 c.args.n.0) m)))
+    → UnlessStop c.take.result (UnlessHeld m (Take c.data_page-x.result.0 c.args.n.0 ∷ []) c.take.result (IsShown c.take.new.store (g.D.Disk.state c.take.new.disk).block) (IsOk c.take.result × IsShown c.take.new.store (g.D.Disk.state c.take.new.disk).block (one (Take c.data_page-x.result.0 c.args.n.0) m)))
 take_ok g c told m shown =
-    page_step m c.data_page-x.result.0 c.args.n.0 (held_in c.args.store.now c.data_page-x.result) c.take.result (IsShown c.take.new.self (g.D.Disk.state c.take.new.disk).block) (c.take.ensures.refused told m shown)
+    page_step m c.data_page-x.result.0 c.args.n.0 (held_in c.args.store.now c.data_page-x.result) c.take.result (IsShown c.take.new.store (g.D.Disk.state c.take.new.disk).block) (c.take.ensures.refused told m shown)
     (some_then (held_in c.args.store.now c.data_page-x.result) _ _ c.take.ensures.held (λ why same. (same.0, subst (λ v. IsShown v (g.D.Disk.state c.take.new.disk).block m) (sym same.1) (subst (λ d. IsShown c.args.store.now (g.D.Disk.state d).block m) (sym same.2) shown))))
     (λ free. error_then c.take.result _ (λ why. says_stop why ≡ true) c.take.ensures.stopped (λ why stops. stops told m shown free))
     (on_done c.take.result c.take.ensures.shows (λ shows. shows told m shown))
@@ -49,24 +49,24 @@ take_ok g c told m shown =
 pub returns-in_err-take-clause-step : goal.returns-in_err-take-clause-step
 returns-in_err-take-clause-step g c = λ told m shown.
     let e = the_error c.from_residual.result _ c.from_residual.ensures.1 in
-    let S : Machine → Type 0 = IsShown c.take.new.self (g.D.Disk.state c.take.new.disk).block in
+    let S : Machine → Type 0 = IsShown c.take.new.store (g.D.Disk.state c.take.new.disk).block in
     stop_on _ _ m (Take (page_of_place c.args.store.now.shape c.args.map.0 c.args.place) c.args.n.0 ∷ []) c.take.result c.from_residual.result e.0 S (c.in_err-take.was ∙ ap Err (sym e.2)) e.1
     (subst (λ k. UnlessStop c.take.result (UnlessHeld m (Take k c.args.n.0 ∷ []) c.take.result S (IsOk c.take.result × S (one (Take k c.args.n.0) m)))) c.data_page-x.ensures.at (take_err g c told m shown))
 
-map_after : (g : given.Over) (c : goal.In_ok-take g) (image : MapImage) → ShowsMap c.args.store.now c.args.n.0 c.args.map image → ShowsMap c.take.new.self c.args.n.0 c.args.map image
+map_after : (g : given.Over) (c : goal.In_ok-take g) (image : MapImage) → ShowsMap c.args.store.now c.args.n.0 c.args.map image → ShowsMap c.take.new.store c.args.n.0 c.args.map image
 map_after g c image was =
     let same = map_of_its_place c.args.store.now.shape c.data_page-x.result c.args.map c.args.place (omega (arith, c.requires.place)) c.data_page-x.ensures.at in
-    subst (λ y. ShowsMap c.take.new.self c.args.n.0 y image) same (c.in_ok-take.ensures.map c.data_page-x.ensures.low image (subst (λ y. ShowsMap c.args.store.now c.args.n.0 y image) (sym same) was))
+    subst (λ y. ShowsMap c.take.new.store c.args.n.0 y image) same (c.in_ok-take.ensures.map c.data_page-x.ensures.low image (subst (λ y. ShowsMap c.args.store.now c.args.n.0 y image) (sym same) was))
 
 pub returns-clause-map : goal.returns-clause-map
 returns-clause-map g c = map_after g c
 
 pub returns-clause-map_cached : goal.returns-clause-map_cached
-returns-clause-map_cached g c = let there = c.entry_at-entry.ensures.there in cached_map c.take.new.self c.args.n.0 c.args.map there.0 (map_after g c there.0 there.1)
+returns-clause-map_cached g c = let there = c.entry_at-entry.ensures.there in cached_map c.take.new.store c.args.n.0 c.args.map there.0 (map_after g c there.0 there.1)
 
 pub returns-clause-step : goal.returns-clause-step
 returns-clause-step g c = λ told m shown.
-    let S : Machine → Type 0 = IsShown c.take.new.self (g.D.Disk.state c.take.new.disk).block in
+    let S : Machine → Type 0 = IsShown c.take.new.store (g.D.Disk.state c.take.new.disk).block in
     let r' : Result PageNo Reply = Ok c.data_page-x.result in
     let all = done_on m (Take c.data_page-x.result.0 c.args.n.0 ∷ []) c.take.result tt S c.in_ok-take.was (take_ok g c told m shown) in
     subst (λ k. UnlessHeld m (Take k c.args.n.0 ∷ []) r' S (IsOk r' × S (one (Take k c.args.n.0) m))) c.data_page-x.ensures.at
@@ -99,12 +99,12 @@ returns-in_err-take-clause-told g c = λ told.
 pub returns-in_err-take-clause-works : goal.returns-in_err-take-clause-works
 returns-in_err-take-clause-works g c =
     let e = the_error c.from_residual.result _ c.from_residual.ensures.1 in
-    works_said c.args.n.0 (SaysStopOf c.take.result) (SaysStopOf c.from_residual.result) c.args.store.now c.take.new.self (g.D.Disk.state c.args.disk.now) (g.D.Disk.state c.take.new.disk) (g.V.Disk.state c.args.vault.now) (g.V.Disk.state c.take.new.vault)
+    works_said c.args.n.0 (SaysStopOf c.take.result) (SaysStopOf c.from_residual.result) c.args.store.now c.take.new.store (g.D.Disk.state c.args.disk.now) (g.D.Disk.state c.take.new.disk) (g.V.Disk.state c.args.vault.now) (g.V.Disk.state c.take.new.vault)
     (says_on c.take.result c.from_residual.result e.0 (c.in_err-take.was ∙ ap Err (sym e.2)) e.1) c.take.ensures.works
 
 pub returns-clause-works : goal.returns-clause-works
 returns-clause-works g c =
-    works_said c.args.n.0 (SaysStopOf c.take.result) (λ m. ⊥) c.args.store.now c.take.new.self (g.D.Disk.state c.args.disk.now) (g.D.Disk.state c.take.new.disk) (g.V.Disk.state c.args.vault.now) (g.V.Disk.state c.take.new.vault)
+    works_said c.args.n.0 (SaysStopOf c.take.result) (λ m. ⊥) c.args.store.now c.take.new.store (g.D.Disk.state c.args.disk.now) (g.D.Disk.state c.take.new.disk) (g.V.Disk.state c.args.vault.now) (g.V.Disk.state c.take.new.vault)
     (says_none c.take.result tt c.in_ok-take.was) c.take.ensures.works
 
 pub returns-in_err-take-clause-work : goal.returns-in_err-take-clause-work
