@@ -4,8 +4,8 @@
 //! It promises upward that a record is read, written, deleted or found, and that all of a transaction is
 //! taken back, exactly as the record machine says, or that the command is refused for the first reason that
 //! there is; and that a node whose port stops in it is down, be it the one that asks or one that had to give
-//! up a page. It stands on `store_nodes`, of whose calls each command is a sequence; the crate has no state
-//! of its own.
+//! up a page. It stands on `store_nodes` and `store_pages`, of whose calls each command is a sequence; the
+//! crate has no state of its own.
 #![tactic(auto)]
 
 mod abort_pages;
