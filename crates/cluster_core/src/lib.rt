@@ -2,8 +2,9 @@
 //!
 //! It promises upward that a command does what the record machine does, and is refused for what the
 //! machine refuses it for; that where a node stops in it that node is down; and that a store is formatted
-//! whole, or not at all. It stands on `store_nodes` for the nodes and what they share, on `store_commands`
-//! for the commands on records, and on `store_format` for how a new store is written.
+//! whole, or not at all. It stands on `store_nodes` for the nodes and what they share, on `store_pages` for
+//! a flush, on `store_commands` for the commands on records, and on `store_format` for how a new store is
+//! written.
 #![tactic(auto)]
 
 mod cluster;
