@@ -22,6 +22,7 @@ ghost use Rattle.store_nodes.specs.Ports.{HasCause, IsQuiet, IsReady, IsStopRepl
 ghost use Rattle.store_nodes.specs.Shows.{IsShown};
 ghost use Rattle.store_pages.specs.Updates.{HasNoRoomFor, HasRoomFor, IsLeftAfter, IsLogBlock, IsNextAfter, IsNumberOf, IsWithin, left_on};
 
+use crate::cached_pages::data_ident;
 use node_cache::NodeCache;
 use script_text::Reply;
 use sd_base::{DevFault, Disk, MAX_IDENT, NodeId, PageNo, Shape, TxnId};

@@ -13,9 +13,9 @@ ghost use Rattle.store_nodes.specs.Nodes.{IsPlace, IsStore, OnUp, is_up, node_at
 ghost use Rattle.store_nodes.specs.Pages.{AreUnused, HasCached, ShowsData, ShowsMap};
 
 use page_image::{identifier, slot};
-use sd_base::{Block, GroupNo, NodeId, PageNo, Value, page_ident};
+use sd_base::{Block, GroupNo, NodeId, PageNo, Value};
 use space_map::{ENTRIES, MapEntry, entry, find_group, first_free};
-use store_nodes::{Node, Store};
+use store_nodes::{Node, Store, map_identifier};
 
 /// What the frame of a cached page holds: a page of its kind.
 fn view(store: &Store, n: NodeId, x: PageNo) -> &Block

@@ -20,6 +20,8 @@ ghost use Rattle.store_nodes.specs.Pages.{HasCached, KeepsSeats, KeepsWork, Show
 ghost use Rattle.store_nodes.specs.Ports.{HasCause, IsQuiet, IsReady, IsStopReply, SaysStopOf, UnlessStop, WorksWith, WritesWith, says_stop};
 ghost use Rattle.store_nodes.specs.Shows.{IsShown};
 
+use crate::fetching::fetch;
+use crate::surrendering::surrender;
 use page_owner::Own;
 use script_text::Reply;
 use sd_base::{Disk, NodeId, PageNo};
