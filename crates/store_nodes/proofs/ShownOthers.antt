@@ -19,7 +19,6 @@ use Rattle.node_cache.proofs.Without.{shows_same}
 use Rattle.txn_core.specs.Seats.{SeatsState, txn_in}
 use Rattle.txn_core.specs.Told.{AreTold, HasRecords, NamesEarlier}
 use Rattle.record_machine.specs.Machine.{Machine}
-use Rattle.record_machine.specs.Machine as mode
 use Rattle.record_machine.specs.Meaning.{Plain}
 use Rattle.store_nodes.specs.declared.node.Node.{Node}
 use Rattle.store_nodes.specs.declared.node.Node.TheVariants.{Idle, Up, Down}

@@ -1,4 +1,4 @@
-use Rattle.std.proofs.Common.{◌≡◌, ◌-◌, false, ap, refl, subst, length, length-set, ◌∙◌}
+use Rattle.std.proofs.Common.{◌≡◌, false, ap, refl, subst, length, length-set, ◌∙◌}
 use Rattle.log_record.specs.declared.record.LogRecord.TheVariants.{Begin}
 use Rattle.txn_core.specs.Seats.{is_busy}
 use Rattle.record_machine.specs.Meaning.{logged}

@@ -1,4 +1,4 @@
-use Rattle.std.proofs.Common.{◌≡◌, ◌∷◌, [], Some, IsTrue, ◌-◌, ap, refl, subst, sym, length, length-set, ◌∙◌}
+use Rattle.std.proofs.Common.{◌≡◌, ◌∷◌, [], Some, IsTrue, ap, refl, subst, sym, length, length-set, ◌∙◌}
 use Rattle.record_locks.specs.Held.{without_txn}
 use Rattle.txn_core.specs.Ending.{end_record}
 use Rattle.txn_core.specs.Seats.{OpenTxn, is_busy, txn_in}

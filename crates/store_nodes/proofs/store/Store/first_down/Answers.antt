@@ -1,7 +1,6 @@
-use Rattle.std.specs.Prelude.{◌≡◌, ◌+◌, ◌-◌, ℕ, Bool, true, false, Option, Some, None, cond, option_map}
+use Rattle.std.specs.Prelude.{◌≡◌, ◌+◌, ◌-◌, ℕ, Bool, true, false, Some, cond, option_map}
 use Rattle.std.specs.List.{find, range_with_len}
 use Rattle.std.proofs.Common.{arith, ap, sym, ◌∙◌}
-use Rattle.sd_base.specs.declared.device.NodeId.{NodeId}
 use Rattle.store_nodes.specs.Known.{is_down}
 use Rattle.store_nodes.specs.Nodes.{node_at}
 use Rattle.store_nodes.proofs.ShownReopening.{find_onward}
