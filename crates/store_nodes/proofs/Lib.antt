@@ -9,6 +9,9 @@ pub mod OtherLogs
 pub mod ShownOthers
 pub mod ShownWith
 pub mod ShownLogged
+pub mod Ties
+pub mod Broken
+pub mod MayHalts
 pub mod ShownBegin
 pub mod ShownEnd
 pub mod Logs
