@@ -11,7 +11,8 @@ pub mod ShownWith
 pub mod ShownLogged
 pub mod Ties
 pub mod Broken
-pub mod MayHalts
+pub mod HaltedNodes
+pub mod StoppedEndures
 pub mod ShownBegin
 pub mod ShownEnd
 pub mod Logs
