@@ -129,6 +129,7 @@ impl Store {
         ensures vault_outcomes { IsTrue V.told → Narrows (V.state vault.old).block (V.state vault.new).block }
         ensures halts { OnStop fault (Halts n self.old self.new (D.state disk.new) (V.state vault.new)) }
         ensures kept { UnlessStopped fault ((self.new ≡ self.old) × (disk.new ≡ disk.old) × (vault.new ≡ vault.old)) }
+        ensures led { OnStop fault (IsTrue D.told → (m : Machine) → MayHalt n.0 self.old (D.state disk.new).block m → Stops n.0 m (Endures self.new (D.state disk.new).block)) }
     {
         match fault {
             DevFault::Stopped(_) | DevFault::Failed(_) => self.halt(disk, vault, n),
