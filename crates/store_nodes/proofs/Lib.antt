@@ -13,6 +13,7 @@ pub mod Ties
 pub mod Broken
 pub mod HaltedNodes
 pub mod StoppedEndures
+pub mod MayHalts
 pub mod ShownBegin
 pub mod ShownEnd
 pub mod Logs
