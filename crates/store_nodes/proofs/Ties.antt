@@ -88,11 +88,15 @@ up_tied n c d h h' first stable same rises was = record {
   stable = (let old = was.stable in let start = same.start in omega (arith, old, start, rises, stable));
 }
 
+-- what the history takes as stable is in each front of its log that a stop leaves
+pub stable_cut : (n : ℕ) (c : CacheState) (b : ℕ → BlockState) (h : History) (xs : List (List ℕ)) (cut : IsCutLog (region c.log) c.log.start c.log.stable b xs) → TiesUp n c h → h.stable n ≤ cut.count
+stable_cut n c b h xs cut was = (let old = was.stable in let low = cut.low in omega (arith, old, low))
+
 -- It has stopped: a front of its log is left, which has all that was stable.
-module _ (s : Shape) (n : ℕ) (c : CacheState) (b b' : ℕ → BlockState) (h : History) (own : region c.log ≡ region_of s n) (was : TiesUp n c h) (legal : All IsLegal (h.live n)) (cut : IsCutLog (region c.log) c.log.start c.log.stable b (map record_text (h.live n)))
-    (still : IsStill (region c.log) b) (settles : KeepsForeign n b b') where
+module _ (s : Shape) (n : ℕ) (c : CacheState) (b b' : ℕ → BlockState) (h : History) (own : region c.log ≡ region_of s n) (first : h.devices.first n ≡ 6 * c.log.start) (legal : All IsLegal (h.live n)) (cut : IsCutLog (region c.log) c.log.start c.log.stable b (map record_text (h.live n)))
+    (low : h.stable n ≤ cut.count) (still : IsStill (region c.log) b) (settles : KeepsForeign n b b') where
   pub place_cut : IsPlaceToCut h n cut.count
-  place_cut = record { low = (let old = was.stable in let low = cut.low in omega (arith, old, low)); high = (let high = cut.high in let texts = length-map (h.live n) record_text in omega (arith, high, texts)) }
+  place_cut = record { low = low; high = (let high = cut.high in let texts = length-map (h.live n) record_text in omega (arith, high, texts)) }
 
   left : (stopped h n cut.count).live n ≡ take cut.count (h.live n)
   left = set_at-same n (take cut.count (h.live n)) h.live
@@ -106,7 +110,7 @@ module _ (s : Shape) (n : ℕ) (c : CacheState) (b b' : ℕ → BlockState) (h :
   pub down_tied : TiesStill s n b' (stopped h n cut.count)
   down_tied = record {
     start = c.log.start;
-    first = was.first;
+    first = first;
     legal = subst (All IsLegal) (sym left) (All-take IsLegal cut.count (h.live n) legal);
     stable = set_at-same n cut.count h.stable ∙ sym long ∙ ap (λ (l : List LogRecord). length l) (sym left);
     still = region_left.still (subst (λ g. IsStill g b) own still);
