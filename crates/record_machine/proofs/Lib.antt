@@ -12,7 +12,7 @@ pub mod LockSteps
 pub mod RestSteps
 pub mod RowLaws
 mod TakeSteps
-mod StopSteps
+pub mod StopSteps
 mod SureSteps
 pub mod FormattedLaws
 pub mod Steps

@@ -8,6 +8,12 @@ pub mod OtherLogs
 pub mod ShownOthers
 pub mod ShownWith
 pub mod ShownLogged
+pub mod Ties
+pub mod Broken
+pub mod HaltedNodes
+pub mod StoppedEndures
+pub mod MayHalts
+pub mod LoggedEndures
 pub mod ShownBegin
 pub mod ShownEnd
 pub mod Logs

@@ -21,7 +21,7 @@ use Rattle.record_machine.specs.Meaning.{Means, Plain}
 use Rattle.store_nodes.specs.declared.node.Node.{Node}
 use Rattle.store_nodes.specs.declared.node.Node.TheVariants.{Up}
 use Rattle.store_nodes.specs.Nodes.{IsHeldBy, IsPlace, IsStoreOf, KeepsFramesBut, node_at, with_node}
-use Rattle.store_nodes.specs.Shows.{IsOnDisk, IsSettled, ShowsNode, ShowsStoreOf, ShowsUp, holder}
+use Rattle.store_nodes.specs.Shows.{IsOnDisk, IsSettled, ShowsNode, ShowsNodes, ShowsStoreOf, ShowsUp, holder}
 use Rattle.store_nodes.proofs.Holders.{clean_later, settled_earlier}
 use Rattle.store_nodes.proofs.Others.{KeepsHeldBy}
 use Rattle.store_nodes.proofs.Eight.{each_with}
@@ -31,19 +31,28 @@ use Rattle.store_nodes.proofs.ShownOthers.{LeavesNode, node_left}
 -- ---- the node, and the others
 
 module _ (s : Shape) (pool pool' : List (Option (List ℕ))) (owners owners' : List Own) (nodes : List Node) (n : ℕ) (d : CacheState) (after : SeatsState) (b b' : ℕ → BlockState) (p p' : Plain) (m m' : Machine)
-    (is : IsStoreOf s pool owners nodes) (place : IsPlace n) (was : ShowsStoreOf s pool owners nodes b p m)
+    (is : IsStoreOf s pool owners nodes) (place : IsPlace n) (was : ShowsNodes s pool owners nodes b p m)
     (logs : (k : ℕ) → IsPlace k → k ≤ s.nodes → k ≢ n → LeavesRegion (region_of s k) b b') (frames : KeepsFramesBut n nodes pool pool') (others : (k : ℕ) → IsPlace k → k ≢ n → LeavesNode s k (node_at nodes k) p p' m m') where
-  pub shown_with : Means p' m' → m'.shape ≡ s → m'.mode n ≡ mode.Up → ShowsUp s pool' n d after b' p' m' → ((x : PageNo) → x.0 < page_count s → IsSettled (with_node nodes n (Up d after)) owners' x → IsOnDisk s b' p' x)
-      → ((x : ℕ) → x < page_count s → m'.hold x ≡ holder (owner_of owners' x)) → ShowsStoreOf s pool' owners' (with_node nodes n (Up d after)) b' p' m'
-  shown_with means shape up shows stored hold = record {
+  pub nodes_with : Means p' m' → m'.shape ≡ s → m'.mode n ≡ mode.Up → ShowsUp s pool' n d after b' p' m' → ((x : ℕ) → x < page_count s → m'.hold x ≡ holder (owner_of owners' x)) → ShowsNodes s pool' owners' (with_node nodes n (Up d after)) b' p' m'
+  nodes_with means shape up shows hold = record {
     means = means;
     shape = shape;
     node = λ k k_is low. each_with nodes n (Up d after) is.shared.eight place (λ j o. j ≤ s.nodes → ShowsNode s pool' j o b' p' m') (λ most. (up, shows))
         (λ j j_is far most. node_left s pool pool' j b b' p p' m m' is.shared.shape (logs j j_is most far) (node_at nodes j) (λ c seats at. regions_at s pool owners nodes is j c seats j_is at) (frames j j_is far) (others j j_is far) (was.node j j_is most))
         k k_is low;
-    stored = stored;
     hold = hold;
   }
+
+-- and with the pages on the disk
+module _ (s : Shape) (pool pool' : List (Option (List ℕ))) (owners owners' : List Own) (nodes : List Node) (n : ℕ) (d : CacheState) (after : SeatsState) (b b' : ℕ → BlockState) (p p' : Plain) (m m' : Machine)
+    (is : IsStoreOf s pool owners nodes) (place : IsPlace n) (was : ShowsStoreOf s pool owners nodes b p m)
+    (logs : (k : ℕ) → IsPlace k → k ≤ s.nodes → k ≢ n → LeavesRegion (region_of s k) b b') (frames : KeepsFramesBut n nodes pool pool') (others : (k : ℕ) → IsPlace k → k ≢ n → LeavesNode s k (node_at nodes k) p p' m m') where
+  pub shown_with : Means p' m' → m'.shape ≡ s → m'.mode n ≡ mode.Up → ShowsUp s pool' n d after b' p' m' → ((x : PageNo) → x.0 < page_count s → IsSettled (with_node nodes n (Up d after)) owners' x → IsOnDisk s b' p' x)
+      → ((x : ℕ) → x < page_count s → m'.hold x ≡ holder (owner_of owners' x)) → ShowsStoreOf s pool' owners' (with_node nodes n (Up d after)) b' p' m'
+  shown_with means shape up shows stored hold =
+      let nodes_were : ShowsNodes s pool owners nodes b p m = record { means = was.means; shape = was.shape; node = was.node; hold = was.hold } in
+      let now = nodes_with s pool pool' owners owners' nodes n d after b b' p p' m m' is place nodes_were logs frames others means shape up shows hold in
+      record { means = now.means; shape = now.shape; node = now.node; stored = stored; hold = now.hold }
 
 -- ---- what is on the disk
 

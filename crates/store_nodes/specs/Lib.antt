@@ -3,6 +3,8 @@ pub mod Ports
 pub mod Halting
 pub mod Pages
 pub mod Known
+pub mod Tied
 pub mod Shows
+pub mod Endures
 pub mod Causes
 pub mod Footprint

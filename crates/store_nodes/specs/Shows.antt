@@ -102,8 +102,15 @@ pub record IsSettled (nodes : List Node) (owners : List Own) (x : PageNo) : Type
 
 -- ---- the store
 
--- A store and its disk mean a state of the machine, by the logs and pages of the store as they are at present. Of a node
--- that is down nothing is said but that it is, and that its transactions owe no more records than its log may have.
+-- A store's nodes and its logs mean a state of the machine, by the logs and pages of the store as they are at present. Of a
+-- node that is down nothing is said but that it is, and that its transactions owe no more records than its log may have.
+pub record ShowsNodes (s : Shape) (pool : List (Option (List ℕ))) (owners : List Own) (nodes : List Node) (b : ℕ → BlockState) (p : Plain) (m : Machine) : Type 0 where
+  pub means : Means p m
+  pub shape : m.shape ≡ s
+  pub node : (n : ℕ) → IsPlace n → n ≤ s.nodes → ShowsNode s pool n (node_at nodes n) b p m
+  pub hold : (x : ℕ) → x < page_count s → m.hold x ≡ holder (owner_of owners x)
+
+-- So do the nodes, the logs and the pages on the disk.
 pub record ShowsStoreOf (s : Shape) (pool : List (Option (List ℕ))) (owners : List Own) (nodes : List Node) (b : ℕ → BlockState) (p : Plain) (m : Machine) : Type 0 where
   pub means : Means p m
   pub shape : m.shape ≡ s

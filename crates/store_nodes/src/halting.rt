@@ -8,6 +8,8 @@ ghost use Rattle.page_owner.specs.Owners.{owner_of};
 ghost use Rattle.node_cache.specs.Room.{freed, given_up};
 ghost use Rattle.state_ids.specs.Blocks.{UnlessStopped};
 ghost use Rattle.store_nodes.specs.declared.node.Node.TheVariants.{Down};
+ghost use Rattle.record_machine.specs.Machine.{Machine};
+ghost use Rattle.store_nodes.specs.Endures.{Endures, MayHalt, Stops};
 ghost use Rattle.store_nodes.specs.Halting.{Halts, LosesTables};
 ghost use Rattle.store_nodes.specs.Nodes.{IsPlace, IsStore, IsStoreBut, KeepsFramesBut, any_up, node_at, pages_of, with_node};
 ghost use Rattle.store_nodes.specs.Ports.{IsQuiet, IsQuietBut, IsReady, IsServedBut, Works, reply_to};
@@ -95,6 +97,7 @@ impl Store {
         ensures foreign { IsTrue D.told → KeepsForeign n.0 (D.state disk.old).block (D.state disk.new).block }
         ensures vault_outcomes { IsTrue V.told → Narrows (V.state vault.old).block (V.state vault.new).block }
         ensures halts { Halts n self.old self.new (D.state disk.new) (V.state vault.new) }
+        ensures led { IsTrue D.told → (m : Machine) → MayHalt n.0 self.old (D.state disk.new).block m → Stops n.0 m (Endures self.new (D.state disk.new).block) }
     {
         disk.stop(n, 0);
         vault.stop(n, 0);
@@ -126,6 +129,7 @@ impl Store {
         ensures vault_outcomes { IsTrue V.told → Narrows (V.state vault.old).block (V.state vault.new).block }
         ensures halts { OnStop fault (Halts n self.old self.new (D.state disk.new) (V.state vault.new)) }
         ensures kept { UnlessStopped fault ((self.new ≡ self.old) × (disk.new ≡ disk.old) × (vault.new ≡ vault.old)) }
+        ensures led { OnStop fault (IsTrue D.told → (m : Machine) → MayHalt n.0 self.old (D.state disk.new).block m → Stops n.0 m (Endures self.new (D.state disk.new).block)) }
     {
         match fault {
             DevFault::Stopped(_) | DevFault::Failed(_) => self.halt(disk, vault, n),

@@ -1,4 +1,9 @@
 use Rattle.std.proofs.Common.{IsTrue, inl, inr, subst, subst₂, sym}
+use Rattle.sd_base.specs.declared.fault.DevFault.{DevFault}
+use Rattle.sd_base.specs.declared.fault.DevFault.TheVariants.{Stopped, Failed, Lost, Damaged}
+use Rattle.sd_base.specs.Faults.{OnStop}
+use Rattle.record_machine.specs.Machine.{Machine}
+use Rattle.store_nodes.specs.Endures.{Endures, MayHalt, Stops}
 use Rattle.state_ids.specs.Blocks.{UnlessStopped}
 use Rattle.store_nodes.specs.Ports.{IsQuiet}
 use Rattle.store_nodes.proofs.store.Store.give_up.Goals as goal
@@ -15,3 +20,23 @@ returns-clause-quiet g c = λ told. elim c.match-fault.branch [
       ] in
       subst₂ (λ o d. IsQuiet o (g.D.Disk.state d).block) (sym w.self-is) (sym w.disk-is) quiet
 ]
+
+-- what holds in any case holds on a stop
+on_stop : (f : DevFault) (P : Type 0) → P → OnStop f P
+on_stop (Stopped n) P was = was
+on_stop (Failed n) P was = was
+on_stop (Lost at) P was = tt
+on_stop (Damaged at) P was = tt
+
+pub returns-clause-led : goal.returns-clause-led
+returns-clause-led g c =
+    let n = c.args.n.0 in
+    let me = c.args.self.now in
+    let P : Type 0 = IsTrue g.D.Disk.told → (m : Machine) → MayHalt n me (g.D.Disk.state c.match-fault.disk).block m → Stops n m (Endures c.match-fault.self (g.D.Disk.state c.match-fault.disk).block) in
+    elim c.match-fault.branch [
+      | in-Stopped w ↦ on_stop c.args.fault P (λ told m. subst₂ (λ o d. MayHalt n me (g.D.Disk.state d).block m → Stops n m (Endures o (g.D.Disk.state d).block)) (sym w.self-is) (sym w.disk-is) (w.halt.ensures.led told m))
+      | in-Lost w ↦ elim w.in-Lost.is [
+        | inl lost ↦ subst (λ f. OnStop f P) (sym lost.1) tt
+        | inr damaged ↦ subst (λ f. OnStop f P) (sym damaged.1) tt
+      ]
+    ]

@@ -1,0 +1,29 @@
+-- A call has stopped with the node that does it.
+use Rattle.std.specs.Prelude.{◌≡◌, ℕ, false, All, List, take}
+use Rattle.std.proofs.Common.{inl, refl, subst, sym}
+use Rattle.sd_base.specs.declared.fault.DevFault.{DevFault}
+use Rattle.sd_base.specs.declared.fault.DevFault.TheVariants.{Stopped, Failed, Lost, Damaged}
+use Rattle.sd_base.specs.Faults.{IsStopOf, OnStop}
+use Rattle.record_machine.specs.Led.{Broke, LedErr, is_unlock}
+use Rattle.record_machine.specs.Machine.{Machine}
+use Rattle.record_machine.specs.Parts.{Part, dos}
+use Rattle.store_nodes.specs.Endures.{Stops}
+use Rattle.store_nodes.specs.Ports.{reply_to}
+
+-- its node stopped behind so many of the parts
+pub broke_here : (n : ℕ) (ps : List Part) (count : ℕ) (m : Machine) (S : Machine → Type 0) → All (λ part. is_unlock part ≡ false) (take count ps) → Stops n (dos (take count ps) m) S → Broke n n ps m S
+broke_here n ps count m S locked s = record { count = count; locked = locked; port = inl refl; kept = s.kept; within = s.within; shows = s.shows }
+
+-- and the reply to the fault of its port says so
+pub led_fault : (n first : ℕ) (fault : DevFault) (ps : List Part) (m : Machine) (S : Machine → Type 0) → IsStopOf n fault → Broke n n ps m S → LedErr n (reply_to first fault) ps m S
+led_fault n first (Stopped h) ps m S is broke = subst (λ k. Broke n k ps m S) (sym is) broke
+led_fault n first (Failed h) ps m S is broke = subst (λ k. Broke n k ps m S) (sym is) broke
+led_fault n first (Lost at) ps m S is broke = absurd is
+led_fault n first (Damaged at) ps m S is broke = absurd is
+
+-- what holds on a stop holds of it
+pub of_stop : (n : ℕ) (fault : DevFault) (P : Type 0) → IsStopOf n fault → OnStop fault P → P
+of_stop n (Stopped h) P is was = was
+of_stop n (Failed h) P is was = was
+of_stop n (Lost at) P is was = absurd is
+of_stop n (Damaged at) P is was = absurd is
