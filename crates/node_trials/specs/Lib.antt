@@ -1,3 +1,2 @@
-pub mod Watched
 pub mod Bench
 pub mod SeatBench

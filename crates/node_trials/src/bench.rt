@@ -15,7 +15,7 @@ ghost use Rattle.node_cache.specs.Room.{IsEntryOf};
 ghost use Rattle.node_trials.specs.Bench.{IsBroken, IsReadyDevice, IsReady, IsViewed, IsWhole};
 
 use crate::store::{MAP, NODE, PAGES, SHAPE, value};
-use crate::watched::WatchedDisk;
+use device_trials::WatchedDisk;
 use frame_pool::Pool;
 use log_record::{LogRecord, is_legal};
 use node_cache::NodeCache;

@@ -1,20 +1,13 @@
 //! One node's cache and transactions tried out over devices in memory.
 //!
-//! What no contract says shows in its tests: that the calls succeed, those of the device, the frames and
-//! the owners below too, in which order pages leave, which records the transactions log, and what the
-//! device holds at each stop. Its `Bench` is a caller of the cache that carries one word from call to
-//! call (`IsReady`), and its `SeatBench` a caller of the seats (`IsSeated`). Its `WatchedDisk` is a
-//! device that notes what it is told to do and stops where it is asked to. Nothing stands on this crate.
+//! What no contract says shows in its tests: that the calls succeed, in which order pages leave, which
+//! records the transactions log, and what the device holds at each stop. Its `Bench` is a caller of the
+//! cache that carries one word from call to call (`IsReady`), and its `SeatBench` a caller of the seats
+//! (`IsSeated`). Both go over the `WatchedDisk` of the trials below. Nothing stands on this crate.
 #![tactic(auto)]
-
-mod watched;
-
-pub use watched::{Deed, WatchedDisk};
 
 #[cfg(test)]
 mod again_tests;
-#[cfg(test)]
-mod armed_tests;
 #[cfg(test)]
 mod bench;
 #[cfg(test)]
@@ -24,15 +17,9 @@ mod dirty_tests;
 #[cfg(test)]
 mod evicted_tests;
 #[cfg(test)]
-mod frame_tests;
-#[cfg(test)]
 mod full_log_tests;
 #[cfg(test)]
-mod memory_tests;
-#[cfg(test)]
 mod order_tests;
-#[cfg(test)]
-mod owner_tests;
 #[cfg(test)]
 mod page_tests;
 #[cfg(test)]

@@ -5,8 +5,8 @@ ghost use Rattle.node_trials.specs.Bench.{IsReady};
 
 use crate::bench::Bench;
 use crate::store::{MAP, SHAPE, new_bench, value};
-use crate::watched::{Deed, WatchedDisk};
 use Deed::{Barrier, Write};
+use device_trials::{Deed, WatchedDisk};
 use sd_base::{BlockNo, Disk, PageNo};
 use std::process::Abort;
 use std::test::Fail;

@@ -10,7 +10,7 @@ ghost use Rattle.node_trials.specs.SeatBench.{HasRoom, IsSeated};
 
 use crate::bench::{Bench, Remains};
 use crate::store::{PAGES, SHAPE};
-use crate::watched::WatchedDisk;
+use device_trials::WatchedDisk;
 use page_image::{identifier, slot};
 use sd_base::{DevFault, Disk, PageNo, Value};
 use std::process::Abort;

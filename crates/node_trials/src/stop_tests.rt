@@ -5,7 +5,7 @@ ghost use Rattle.node_trials.specs.Bench.{IsReady, IsWhole};
 
 use crate::bench::{Bench, Remains};
 use crate::store::{MAP, NODE, PAGES, SHAPE, new_bench, value};
-use crate::watched::WatchedDisk;
+use device_trials::WatchedDisk;
 use frame_pool::Pool;
 use log_record::{LogRecord, decode};
 use page_image::parse;

@@ -6,7 +6,7 @@ ghost use Rattle.page_image.specs.Image.{IsTextOf, birth_image};
 ghost use Rattle.node_trials.specs.Bench.{IsReadyDevice, IsReady};
 
 use crate::bench::Bench;
-use crate::watched::WatchedDisk;
+use device_trials::WatchedDisk;
 use disk_model::MemDisk;
 use frame_pool::Pool;
 use page_image::{apply, write_birth};

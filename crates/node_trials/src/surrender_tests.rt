@@ -5,8 +5,8 @@ ghost use Rattle.node_trials.specs.Bench.{IsReady};
 
 use crate::bench::Bench;
 use crate::store::{MAP, NODE, PAGES, SHAPE, changed, new_bench};
-use crate::watched::{Deed, WatchedDisk};
 use Deed::{Barrier, Write};
+use device_trials::{Deed, WatchedDisk};
 use page_owner::Own;
 use sd_base::{BlockNo, Disk, PageNo};
 use std::process::Abort;

@@ -1,6 +1,6 @@
 use Rattle.std.proofs.Common.{◌≢◌, sym}
 use Rattle.frame_pool.proofs.PoolLaws.{IsOut-taken, IsOut-given, taken-apart}
-use Rattle.node_trials.proofs.frame_tests.frames_are_taken_and_given_back.Goals as goal
+use Rattle.device_trials.proofs.frame_tests.frames_are_taken_and_given_back.Goals as goal
 
 -- the frames stay out while they are written
 

@@ -2,7 +2,7 @@
 
 ghost use Rattle.std.specs.Prelude.{◌≡◌, ◌≢◌, ◌+◌, ◌-◌, ◌≤◌, ◌^◌, ℕ, length, min, replicate, slice_index};
 ghost use Rattle.sd_base.specs.Disk.{IsPort};
-ghost use Rattle.node_trials.specs.Watched.{watched_state};
+ghost use Rattle.device_trials.specs.Watched.{watched_state};
 
 use sd_base::{Block, BlockNo, Disk, NodeId, ReadAnswer, WriteAnswer};
 
