@@ -1,6 +1,8 @@
 -- A call has stopped with the node that does it.
-use Rattle.std.specs.Prelude.{◌≡◌, ℕ, false, All, List, take}
-use Rattle.std.proofs.Common.{inl, refl, subst, sym}
+use Rattle.std.specs.Prelude.{◌≡◌, ℕ, Bool, true, false, All, List, slice_index_or, take}
+use Rattle.std.specs.List.{list_any}
+use Rattle.std.proofs.Common.{inl, refl, subst, sym, ◌∙◌}
+use Rattle.std.proofs.lemmas.List.Folds.{list_any_at}
 use Rattle.sd_base.specs.declared.fault.DevFault.{DevFault}
 use Rattle.sd_base.specs.declared.fault.DevFault.TheVariants.{Stopped, Failed, Lost, Damaged}
 use Rattle.sd_base.specs.Faults.{IsStopOf, OnStop}
@@ -9,6 +11,14 @@ use Rattle.record_machine.specs.Machine.{Machine}
 use Rattle.record_machine.specs.Parts.{Part, dos}
 use Rattle.store_nodes.specs.Endures.{Stops}
 use Rattle.store_nodes.specs.Ports.{reply_to}
+
+-- none of these parts releases locks
+pub no_unlock : (ps : List Part) → list_any is_unlock ps ≡ false → All (λ part. is_unlock part ≡ false) ps
+no_unlock ps none j d low = by (is_unlock (slice_index_or ps j d)) refl
+  where
+    by : (b : Bool) → is_unlock (slice_index_or ps j d) ≡ b → is_unlock (slice_index_or ps j d) ≡ false
+    by false was = was
+    by true was = let some : list_any is_unlock ps ≡ true = list_any_at is_unlock ps j d low was in let never : true ≡ false = sym some ∙ none in absurd cc
 
 -- its node stopped behind so many of the parts
 pub broke_here : (n : ℕ) (ps : List Part) (count : ℕ) (m : Machine) (S : Machine → Type 0) → All (λ part. is_unlock part ≡ false) (take count ps) → Stops n (dos (take count ps) m) S → Broke n n ps m S

@@ -14,6 +14,7 @@ pub mod HaltedNodes
 pub mod StoppedEndures
 pub mod MayHalts
 pub mod LoggedEndures
+pub mod EnduresBegun
 pub mod ShownBegin
 pub mod ShownEnd
 pub mod Logs

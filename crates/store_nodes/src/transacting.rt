@@ -4,11 +4,13 @@ ghost use Rattle.std.specs.Prelude.{◌≡◌, ◌≤◌, ◌+◌, ◌∷◌, []
 ghost use Rattle.sd_base.specs.Calls.{Narrows};
 ghost use Rattle.private_log.specs.Log.{space};
 ghost use Rattle.record_locks.specs.Held.{without_txn};
+ghost use Rattle.record_machine.specs.Led.{Led};
 ghost use Rattle.record_machine.specs.Machine.{Machine};
 ghost use Rattle.record_machine.specs.Parts.{Begin, Seal, Unlock, dos, one};
 ghost use Rattle.txn_core.specs.declared.ending.Ending.TheVariants.{Abort};
 ghost use Rattle.txn_core.specs.Seats.{OpenTxn, is_busy, owed, txn_in};
 ghost use Rattle.store_nodes.specs.declared.node.Node.TheVariants.{Down};
+ghost use Rattle.store_nodes.specs.Endures.{Endures};
 ghost use Rattle.store_nodes.specs.Footprint.{KeepsAllButLog, NarrowsToRing};
 ghost use Rattle.store_nodes.specs.Nodes.{IsPlace, OnUp, is_up, node_at};
 ghost use Rattle.store_nodes.specs.Ports.{HasCause, IsQuiet, IsReady, IsStopReply, Works, Writes};
@@ -43,6 +45,7 @@ impl Store {
         ensures up { OnOk result (is_up (node_at self.new.nodes t.node.0) ≡ true) }
         ensures down { OnErr result (node_at self.new.nodes t.node.0 ≡ Down) }
         ensures shows { OnOk result (IsTrue D.told → (m : Machine) → IsShown self.old (D.state disk.old).block m → IsShown self.new (D.state disk.new).block (one (Begin t) m)) }
+        ensures led { IsTrue D.told → (m : Machine) → m.reopening ≡ false → Endures self.old (D.state disk.old).block m → Led t.node.0 result (Begin t ∷ []) m (Endures self.new (D.state disk.new).block) }
         ensures contents { OnOk result (IsTrue D.told → KeepsAllButLog t.node.0 self.old.shape (D.state disk.old).block (D.state disk.new).block) }
     {
         let fault = match &mut self.nodes[place(t.node)] {
