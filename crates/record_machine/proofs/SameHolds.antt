@@ -96,3 +96,19 @@ survives_as_same held dirty h p m hold loose holds looses s = record {
   awaits = s.awaits;
   quiet = s.quiet;
 }
+
+-- and where node n stops
+pub survives_stop_same : (held : Held) (dirty : ℕ → Bool) (h : History) (p : Plain) (m : Machine) (hold : ℕ → Option ℕ) (loose : ℕ → List LooseChange) (n kept : ℕ) → ((y : ℕ) → hold y ≡ m.hold y) → ((j : ℕ) → loose j ≡ m.loose j)
+    → SurvivesAs held dirty h p (stop n kept m) → SurvivesAs held dirty h p (stop n kept (record m { hold = hold; loose = loose }))
+survives_stop_same held dirty h p m hold loose n kept holds looses s = subst (λ l. SurvivesAs held dirty h p (with_tables (down n (changes_back n (drop kept l) (record m { hold = hold; loose = loose }))))) (sym (looses n))
+    (survives_as_same held dirty h p (stop n kept m) (λ y. if any_up (down n m) then hold y else None) (put n [] loose) (λ y. ap (λ o. if any_up (down n m) then o else None) (holds y)) (λ j. ap (λ l. if j == n then [] else l) (looses j)) s)
+
+-- also as it takes back the open transactions of node u
+pub survives_undo_same : (held : Held) (dirty : ℕ → Bool) (h : History) (p : Plain) (m : Machine) (hold : ℕ → Option ℕ) (loose : ℕ → List LooseChange) (u n kept : ℕ) → ((y : ℕ) → hold y ≡ m.hold y) → ((j : ℕ) → loose j ≡ m.loose j)
+    → SurvivesAs held dirty h p (stop_in_undo u n kept m) → SurvivesAs held dirty h p (stop_in_undo u n kept (record m { hold = hold; loose = loose }))
+survives_undo_same held dirty h p m hold loose u n kept holds looses s =
+    subst (λ l. SurvivesAs held dirty h p (with_tables (record (down n (changes_back n (drop kept l) (record m { hold = hold; loose = loose }))) { mode = put u Down (put n Down m.mode) }))) (sym (looses n))
+    (survives_as_same held dirty h p (stop_in_undo u n kept m) (λ y. if any_up there then hold y else None) (put n [] loose) (λ y. ap (λ o. if any_up there then o else None) (holds y)) (λ j. ap (λ l. if j == n then [] else l) (looses j)) s)
+  where
+    there : Machine
+    there = record m { mode = put u Down (put n Down m.mode) }
