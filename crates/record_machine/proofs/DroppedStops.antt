@@ -9,7 +9,7 @@ use Rattle.record_machine.specs.Parts.{Drop, behind_page, loose_after_drop, one}
 use Rattle.record_machine.specs.Recoverable.{IsKeptBy}
 use Rattle.record_machine.proofs.FewLoose.{IsFew, few_of_one, few_resting, same_behind}
 use Rattle.record_machine.proofs.Put.{put_other, put_same}
-use Rattle.record_machine.proofs.RestSteps.{means_rest}
+use Rattle.record_machine.proofs.RestSteps.{means_dropped}
 use Rattle.record_machine.proofs.StillStops.{still_stops}
 
 -- what a node may lose then is what it might, or what is behind its last change of the page
@@ -47,7 +47,7 @@ dropped_survives dirty h p m x s clean = record {
     idle = s.recoverable.idle;
     holder = λ y e. holder y e (cases_eq y x);
   };
-  means = means_rest p m m.mode m.reopening (put x None m.hold) m.first loose m.gone s.means;
+  means = means_dropped p m x s.means;
   stops = still_stops h m s.recoverable.begun h.devices.disk h.stable h.lock m.mode m.reopening m.locks (put x None m.hold) loose s.stops (λ j. omega arith) (λ j k low high. (same j k (record { low = low; high = high })).0)
       (λ j. (same j (h.stable j) (record { low = omega arith; high = s.recoverable.holds.history.sound j })).1) (λ j k seat key at any e. e) (λ j rest. few_resting h m s.recoverable.begun x s.stops sure j (loose j) rest (few_dropped m x j)) s.stops.owners s.stops.nodes;
 }

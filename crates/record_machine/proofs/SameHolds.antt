@@ -1,16 +1,16 @@
 -- Two machines that differ in nothing but the functions which say who holds a page and what is loose, and agree on each page and
 -- node there: what one of them survives, the other does.
-use Rattle.std.proofs.Common.{◌≡◌, ◌≢◌, ◌⊎◌, inl, inr, ◌==◌, ◌&&◌, ◌+◌, ◌-◌, ◌≤◌, ℕ, Bool, true, false, not, if◌then◌else◌, List, [], length, drop, refl, ap, sym, subst, ◌∙◌, arith, Option, Some, None, eq-eqb, ne_eqb}
+use Rattle.std.proofs.Common.{◌≡◌, ◌≢◌, ◌⊎◌, inl, inr, ◌==◌, ◌&&◌, ◌-◌, ℕ, Bool, true, false, not, if◌then◌else◌, List, [], length, drop, refl, ap, sym, subst, ◌∙◌, arith, Option, Some, None, eq-eqb, ne_eqb}
 use Rattle.std.proofs.lemmas.Bool.{cases_eq}
 use Rattle.record_locks.specs.Held.{Held}
 use Rattle.recovery_theory.specs.History.{History}
 use Rattle.record_machine.specs.Cuts.{Survives, SurvivesAs}
-use Rattle.record_machine.specs.Machine.{Idle, Down, LooseChange, Machine, is_up, put}
+use Rattle.record_machine.specs.Machine.{Down, LooseChange, Machine, is_up, put}
 use Rattle.record_machine.specs.Meaning.{Plain}
 use Rattle.record_machine.specs.Parts.{Drop, Take, behind_page, loose_after_drop, loose_after_take, one}
 use Rattle.record_machine.specs.Recoverable.{IsKeptBy}
 use Rattle.record_machine.specs.Stops.{any_up, changes_back, down, stop, stop_in_undo, with_tables}
-use Rattle.record_machine.proofs.Put.{at_or_off, put_other, put_same}
+use Rattle.record_machine.proofs.Put.{at_or_off, put_same}
 use Rattle.record_machine.proofs.RestSteps.{means_rest}
 use Rattle.record_machine.proofs.StillStops.{still_stops}
 

@@ -22,7 +22,6 @@ use Rattle.record_machine.specs.Machine.{formatted, Deed, Idle, LooseChange, Mac
 use Rattle.record_machine.specs.Meaning.{born, has_written, writes_key}
 use Rattle.record_machine.specs.Parts as part
 use Rattle.record_machine.specs.Parts.{one}
-use Rattle.record_machine.specs.Recoverable.{IsKeptBy}
 use Rattle.record_machine.specs.Stops.{entries_before, ident_before, pending_before, tail_before}
 use Rattle.record_machine.proofs.CutSteps.{told_still}
 use Rattle.record_machine.proofs.FormattedLaws.{means_formatted}

@@ -1,5 +1,5 @@
 -- A page passes to another node: whatever a node may still lose, it isn't a change of that page.
-use Rattle.std.proofs.Common.{◌≡◌, ◌≢◌, ◌⊎◌, inl, inr, ◌==◌, ◌&&◌, not, ◌+◌, ◌-◌, ◌<◌, ◌≤◌, ℕ, zero, suc, Bool, true, false, if◌then◌else◌, List, [], ◌∷◌, length, take, drop, refl, ap, sym, subst, ◌∙◌, arith, Option, Some, None, eq-eqb, ne_eqb, length-drop, drop-drop, count_by}
+use Rattle.std.proofs.Common.{◌≡◌, ◌≢◌, ◌⊎◌, inl, inr, ◌==◌, ◌&&◌, not, ◌+◌, ◌<◌, ◌≤◌, ℕ, Bool, true, false, if◌then◌else◌, List, length, take, refl, ap, sym, subst, ◌∙◌, arith, Option, Some, None, eq-eqb, ne_eqb, count_by}
 use Rattle.std.specs.List.{list_any}
 use Rattle.std.proofs.lemmas.Bool.{cases_eq}
 use Rattle.sd_base.specs.Shape.{page_count}
@@ -10,14 +10,13 @@ use Rattle.recovery_theory.specs.Pages.{is_used}
 use Rattle.recovery_theory.specs.Steps.{IsPlaceToCut, passed, set_at}
 use Rattle.record_machine.specs.CutParts.{TakenSurvives}
 use Rattle.record_machine.specs.Cuts.{MayStop, Survives, TakesBackTo, TellsLog, behind_cut, deeds_at, touches}
-use Rattle.record_machine.specs.Machine.{Deed, Idle, LooseChange, Machine, is_up, put, writes_page}
+use Rattle.record_machine.specs.Machine.{Deed, Machine, is_up, put, writes_page}
 use Rattle.record_machine.specs.Meaning.{Plain}
-use Rattle.record_machine.specs.Parts.{Take, behind_page, is_of_page, loose_after_take, one}
+use Rattle.record_machine.specs.Parts.{Take, behind_page, loose_after_take, one}
 use Rattle.record_machine.specs.Stops.{entries_before, ident_before, pending_before, tail_before}
 use Rattle.record_machine.proofs.CutSteps.{told_still}
 use Rattle.record_machine.proofs.FewLoose.{IsFew, few_of_one, few_resting, off_page, same_behind}
 use Rattle.record_machine.proofs.LockSteps.{means_taken}
-use Rattle.record_machine.proofs.Put.{put_other, put_same}
 use Rattle.record_machine.proofs.RecoverablePages.{taken_begun, taken_recoverable}
 use Rattle.record_machine.proofs.StopSteps.{idents_left}
 use Rattle.record_machine.proofs.TakenBack.{entries_left, untouched}
