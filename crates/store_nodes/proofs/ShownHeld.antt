@@ -12,7 +12,6 @@ use Rattle.page_owner.specs.Owners.{owner_of}
 use Rattle.script_text.specs.declared.reply.Reply.TheVariants as says
 use Rattle.record_machine.specs.Commands.{where_so}
 use Rattle.record_machine.specs.Machine.{Machine, is_down, put}
-use Rattle.record_machine.specs.Machine as mode
 use Rattle.record_machine.specs.Meaning.{Plain}
 use Rattle.record_machine.specs.Parts.{Drop, Take, loose_after_take, one}
 use Rattle.record_machine.specs.Steps.{held_page}
