@@ -40,7 +40,10 @@ pub mod StopSurvives
 pub mod CutSteps
 pub mod LoggedStops
 pub mod StillStops
+pub mod FewLoose
 pub mod TakenStops
+pub mod DroppedStops
+pub mod SameHolds
 pub mod SealStops
 pub mod DeedStops
 pub mod StopTables

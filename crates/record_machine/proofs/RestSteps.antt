@@ -1,7 +1,8 @@
 -- What a store means doesn't hang on which nodes are up, who holds a page, or what is loose.
-use Rattle.std.specs.Prelude.{ℕ, Bool, List, Option}
-use Rattle.record_machine.specs.Machine.{LooseChange, Machine, NodeMode}
+use Rattle.std.specs.Prelude.{ℕ, Bool, List, Option, None}
+use Rattle.record_machine.specs.Machine.{LooseChange, Machine, NodeMode, put}
 use Rattle.record_machine.specs.Meaning.{AreLocked, AreLogs, ArePages, Means, Plain}
+use Rattle.record_machine.specs.Parts.{Drop, loose_after_drop, one}
 
 -- the machine with other holds and the like
 abbrev pub with_rest : (ℕ → NodeMode) → Bool → (ℕ → Option ℕ) → (ℕ → ℕ) → (ℕ → List LooseChange) → (ℕ → Bool) → Machine → Machine
@@ -39,3 +40,7 @@ means_rest p m mode reopening hold first loose gone means = record {
 -- and so not on what is loose
 pub means_loose : (p : Plain) (m : Machine) (loose : ℕ → List LooseChange) → Means p m → Means p (record m { loose = loose })
 means_loose p m loose means = means_rest p m m.mode m.reopening m.hold m.first loose m.gone means
+
+-- nor on a page that nobody holds any more
+pub means_dropped : (p : Plain) (m : Machine) (x : ℕ) → Means p m → Means p (one (Drop x) m)
+means_dropped p m x means = means_rest p m m.mode m.reopening (put x None m.hold) m.first (loose_after_drop x m) m.gone means

@@ -16,13 +16,12 @@ use Rattle.recovery_theory.specs.Effect.{Transaction}
 use Rattle.recovery_theory.specs.History.{History, image_now}
 use Rattle.recovery_theory.specs.Steps.{IsPlaceToCut, forced, on_disk, set_at, started}
 use Rattle.recovery_theory.proofs.Cuts.{set_at-other, set_at-same}
-use Rattle.record_machine.specs.CutParts.{DroppedSurvives, ForcedSurvives, FormattedSurvives, LockedSurvives, StartedSurvives, SureSurvives, UnlockedSurvives, WrittenSurvives}
+use Rattle.record_machine.specs.CutParts.{ForcedSurvives, FormattedSurvives, LockedSurvives, StartedSurvives, SureSurvives, UnlockedSurvives, WrittenSurvives}
 use Rattle.record_machine.specs.Cuts.{MayStop, TakesBackTo, TellsLog, behind_cut, deeds_at, seat_of, touches}
 use Rattle.record_machine.specs.Machine.{formatted, Deed, Idle, LooseChange, Machine, NodeMode, Up, put, writes_page}
 use Rattle.record_machine.specs.Meaning.{born, has_written, writes_key}
 use Rattle.record_machine.specs.Parts as part
 use Rattle.record_machine.specs.Parts.{one}
-use Rattle.record_machine.specs.Recoverable.{IsKeptBy}
 use Rattle.record_machine.specs.Stops.{entries_before, ident_before, pending_before, tail_before}
 use Rattle.record_machine.proofs.CutSteps.{told_still}
 use Rattle.record_machine.proofs.FormattedLaws.{means_formatted}
@@ -110,45 +109,6 @@ written_survives dirty h p m x s sure = record {
   stops = subst (MayStop (on_disk h x (Some (image_now h x))) m) (sym (written_begun dirty h p m x s.recoverable sure))
       (still_stops h m s.recoverable.begun (set_at x (Some (image_now h x)) h.devices.disk) h.stable h.lock m.mode m.reopening m.locks m.hold m.loose s.stops (λ j. omega arith) (λ j c le lt. refl) s.stops.enough (λ j k seat key at any e. e) s.stops.resting s.stops.owners s.stops.nodes);
 }
-
-pub dropped_survives : DroppedSurvives
-dropped_survives dirty h p m x s clean = record {
-  recoverable = record {
-    holds = s.recoverable.holds;
-    roomy = s.recoverable.roomy;
-    rolled = s.recoverable.rolled;
-    shape = s.recoverable.shape;
-    first = s.recoverable.first;
-    live = s.recoverable.live;
-    maps = s.recoverable.maps;
-    pages = s.recoverable.pages;
-    guard = λ y n e. guard y n e (cases_eq y x);
-    stored = s.recoverable.stored;
-    begun = s.recoverable.begun;
-    seats = λ t busy. (let z = s.recoverable.seats t busy in record { left = z.left; going = z.going; begins = z.begins; writes = z.writes });
-    opens = λ k txn us e. (let z = s.recoverable.opens k txn us e in record { who = z.who; node = z.node; busy = z.busy; begins = z.begins });
-    below = s.recoverable.below;
-    apart = s.recoverable.apart;
-    locked = s.recoverable.locked;
-    locker = s.recoverable.locker;
-    idle = s.recoverable.idle;
-    holder = λ y e. holder y e (cases_eq y x);
-  };
-  means = means_rest p m m.mode m.reopening (put x None m.hold) m.first m.loose m.gone s.means;
-  stops = still_stops h m s.recoverable.begun h.devices.disk h.stable h.lock m.mode m.reopening m.locks (put x None m.hold) m.loose s.stops (λ j. omega arith) (λ j c le lt. refl) s.stops.enough (λ j k seat key at any e. e) s.stops.resting s.stops.owners s.stops.nodes;
-}
-  where
-    holder : (y : ℕ) → dirty y ≡ true → (y ≡ x) ⊎ (y ≢ x) → IsKeptBy (one (part.Drop x) m) y (h.guard y)
-    holder y e (inl z) = let never : true ≡ false = sym e ∙ (ap dirty z ∙ clean) in absurd cc
-    holder y e (inr d) = kept (s.recoverable.holder y e)
-      where
-        kept : IsKeptBy m y (h.guard y) → IsKeptBy (one (part.Drop x) m) y (h.guard y)
-        kept (inl z) = inl (put_other x None m.hold y d ∙ z.0, z.1)
-        kept (inr z) = inr z
-
-    guard : (y n : ℕ) → put x None m.hold y ≡ Some n → (y ≡ x) ⊎ (y ≢ x) → h.guard y ≡ n
-    guard y n e (inl same) = let never : None ≡ Some n = sym (put_same x None m.hold y same) ∙ e in absurd cc
-    guard y n e (inr other) = s.recoverable.guard y n (sym (put_other x None m.hold y other) ∙ e)
 
 -- nothing is loose any more where the log is stable
 pub sure_survives : SureSurvives

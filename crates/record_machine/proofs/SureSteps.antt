@@ -6,7 +6,7 @@ use Rattle.script_text.specs.declared.reply.Reply.{Reply}
 use Rattle.script_text.specs.declared.reply.Reply.TheVariants as says
 use Rattle.record_machine.specs.Machine.{Down, LooseChange, Machine, Up, is_up, put}
 use Rattle.record_machine.specs.Parts as part
-use Rattle.record_machine.specs.Parts.{behind_page, is_of_page, loose_after_take, one}
+use Rattle.record_machine.specs.Parts.{behind_page, is_of_page, loose_after_drop, loose_after_take, one}
 use Rattle.record_machine.specs.Commands.{first_of}
 use Rattle.record_machine.specs.Steps.{held, held_page}
 use Rattle.record_machine.proofs.Put.{at_or_off, put_same}
@@ -32,6 +32,12 @@ behind_drops x (c ∷ cs) = by (list_any (is_of_page x) (c ∷ cs)) refl (behind
 pub taken_is_sure : (m : Machine) (x n h : ℕ) → m.hold x ≡ Some h → h ≢ n → m.mode h ≡ Up → list_any (is_of_page x) ((one (part.Take x n) m).loose h) ≡ false
 taken_is_sure m x n h holds apart up = rw (holds, ne_eqb h n apart, up) (ap (list_any (is_of_page x)) (put_same h (behind_page x (m.loose h)) m.loose h refl) ∙ behind_off x (m.loose h))
 
+-- where one node has those left, each has the last of its own
+left_of_one : (m : Machine) (x o h : ℕ) → (count : ℕ) × (put o (behind_page x (m.loose o)) m.loose h ≡ drop count (m.loose h))
+left_of_one m x o h = at_or_off (λ cs. (count : ℕ) × (cs ≡ drop count (m.loose h))) o (behind_page x (m.loose o)) m.loose h
+    (λ same. subst (λ k. (count : ℕ) × (behind_page x (m.loose k) ≡ drop count (m.loose h))) same (behind_drops x (m.loose h)))
+    (λ other. (0, refl))
+
 pub left_by_take : (m : Machine) (x n h : ℕ) → (count : ℕ) × ((one (part.Take x n) m).loose h ≡ drop count (m.loose h))
 left_by_take m x n h = by (m.hold x) refl
   where
@@ -39,14 +45,27 @@ left_by_take m x n h = by (m.hold x) refl
     all_left = (0, refl)
 
     from : (o : ℕ) (b : Bool) → (not (o == n) && is_up (m.mode o)) ≡ b → (count : ℕ) × ((if not (o == n) && is_up (m.mode o) then put o (behind_page x (m.loose o)) m.loose else m.loose) h ≡ drop count (m.loose h))
-    from o true is = rw is (at_or_off (λ cs. (count : ℕ) × (cs ≡ drop count (m.loose h))) o (behind_page x (m.loose o)) m.loose h
-        (λ same. subst (λ k. (count : ℕ) × (behind_page x (m.loose k) ≡ drop count (m.loose h))) same (behind_drops x (m.loose h)))
-        (λ other. all_left))
+    from o true is = rw is (left_of_one m x o h)
     from o false is = rw is all_left
 
     by : (o : Option ℕ) → m.hold x ≡ o → (count : ℕ) × (loose_after_take x n m h ≡ drop count (m.loose h))
     by None is = rw is all_left
     by (Some o) is = rw is (from o (not (o == n) && is_up (m.mode o)) refl)
+
+-- so it is where the page is given up
+pub dropped_is_sure : (m : Machine) (x h : ℕ) → m.hold x ≡ Some h → m.mode h ≡ Up → list_any (is_of_page x) ((one (part.Drop x) m).loose h) ≡ false
+dropped_is_sure m x h holds up = rw (holds, up) (ap (list_any (is_of_page x)) (put_same h (behind_page x (m.loose h)) m.loose h refl) ∙ behind_off x (m.loose h))
+
+pub left_by_drop : (m : Machine) (x h : ℕ) → (count : ℕ) × ((one (part.Drop x) m).loose h ≡ drop count (m.loose h))
+left_by_drop m x h = by (m.hold x) refl
+  where
+    from : (o : ℕ) (b : Bool) → is_up (m.mode o) ≡ b → (count : ℕ) × ((if is_up (m.mode o) then put o (behind_page x (m.loose o)) m.loose else m.loose) h ≡ drop count (m.loose h))
+    from o true is = rw is (left_of_one m x o h)
+    from o false is = rw is (0, refl)
+
+    by : (o : Option ℕ) → m.hold x ≡ o → (count : ℕ) × (loose_after_drop x m h ≡ drop count (m.loose h))
+    by None is = rw is (0, refl)
+    by (Some o) is = rw is (from o (is_up (m.mode o)) refl)
 
 -- ---- which pages may be taken
 

@@ -1,5 +1,5 @@
 -- A page passes to another node: whatever a node may still lose, it isn't a change of that page.
-use Rattle.std.proofs.Common.{◌≡◌, ◌≢◌, ◌⊎◌, inl, inr, ◌==◌, ◌&&◌, not, ◌+◌, ◌-◌, ◌<◌, ◌≤◌, ℕ, zero, suc, Bool, true, false, if◌then◌else◌, List, [], ◌∷◌, length, take, drop, refl, ap, sym, subst, ◌∙◌, arith, Option, Some, None, eq-eqb, ne_eqb, length-drop, drop-drop, count_by}
+use Rattle.std.proofs.Common.{◌≡◌, ◌≢◌, ◌⊎◌, inl, inr, ◌==◌, ◌&&◌, not, ◌+◌, ◌<◌, ◌≤◌, ℕ, Bool, true, false, if◌then◌else◌, List, length, take, refl, ap, sym, subst, ◌∙◌, arith, Option, Some, None, eq-eqb, ne_eqb, count_by}
 use Rattle.std.specs.List.{list_any}
 use Rattle.std.proofs.lemmas.Bool.{cases_eq}
 use Rattle.sd_base.specs.Shape.{page_count}
@@ -10,36 +10,17 @@ use Rattle.recovery_theory.specs.Pages.{is_used}
 use Rattle.recovery_theory.specs.Steps.{IsPlaceToCut, passed, set_at}
 use Rattle.record_machine.specs.CutParts.{TakenSurvives}
 use Rattle.record_machine.specs.Cuts.{MayStop, Survives, TakesBackTo, TellsLog, behind_cut, deeds_at, touches}
-use Rattle.record_machine.specs.Machine.{Deed, Idle, LooseChange, Machine, is_up, put, writes_page}
+use Rattle.record_machine.specs.Machine.{Deed, Machine, is_up, put, writes_page}
 use Rattle.record_machine.specs.Meaning.{Plain}
-use Rattle.record_machine.specs.Parts.{Take, behind_page, is_of_page, loose_after_take, one}
+use Rattle.record_machine.specs.Parts.{Take, behind_page, loose_after_take, one}
 use Rattle.record_machine.specs.Stops.{entries_before, ident_before, pending_before, tail_before}
 use Rattle.record_machine.proofs.CutSteps.{told_still}
+use Rattle.record_machine.proofs.FewLoose.{IsFew, few_of_one, few_resting, off_page, same_behind}
 use Rattle.record_machine.proofs.LockSteps.{means_taken}
-use Rattle.record_machine.proofs.Put.{put_other, put_same}
 use Rattle.record_machine.proofs.RecoverablePages.{taken_begun, taken_recoverable}
 use Rattle.record_machine.proofs.StopSteps.{idents_left}
 use Rattle.record_machine.proofs.TakenBack.{entries_left, untouched}
 use Rattle.record_machine.proofs.ToldNow.{entries_now, ident_now}
-
--- the changes behind the last one of a page: no more of them are dropped than there are up to there
-record Behind (x : ℕ) (cs : List LooseChange) : Type 0 where
-  count : ℕ
-  is : behind_page x cs ≡ drop count cs
-  within : count ≤ length cs
-  least : (i : ℕ) → list_any (is_of_page x) (drop i cs) ≡ false → count ≤ i
-
-behind_is : (x : ℕ) (cs : List LooseChange) → Behind x cs
-behind_is x [] = record { count = 0; is = refl; within = omega arith; least = λ i e. omega arith }
-behind_is x (c ∷ cs) = go (list_any (is_of_page x) (c ∷ cs)) refl (behind_is x cs)
-  where
-    go : (b : Bool) → list_any (is_of_page x) (c ∷ cs) ≡ b → Behind x cs → Behind x (c ∷ cs)
-    go true e z = record { count = suc z.count; is = rw e z.is; within = (let w = z.within in omega (arith, w)); least = least }
-      where
-        least : (i : ℕ) → list_any (is_of_page x) (drop i (c ∷ cs)) ≡ false → suc z.count ≤ i
-        least zero off = let never : true ≡ false = sym e ∙ off in absurd cc
-        least (suc i) off = let l = z.least i off in omega (arith, l)
-    go false e z = record { count = 0; is = rw e refl; within = omega arith; least = λ i off. omega arith }
 
 module _ (dirty : ℕ → Bool) (h : History) (p : Plain) (m : Machine) (x n : ℕ) (s : Survives dirty h p m) (sure : h.last x ≤ h.stable (h.guard x)) where
   abbrev h' : History
@@ -48,54 +29,25 @@ module _ (dirty : ℕ → Bool) (h : History) (p : Plain) (m : Machine) (x n : �
   abbrev m' : Machine
   m' = one (Take x n) m
 
-  -- no change of the page is behind a cut
-  off : (j k : ℕ) → IsPlaceToCut h j k → list_any (touches x) (behind_cut h m j k) ≡ false
-  off j k at = (s.stops.back j k at).others x (go (cases_eq (h.guard x) j))
-    where
-      go : (h.guard x ≡ j) ⊎ (h.guard x ≢ j) → (h.guard x ≢ j) ⊎ (h.last x ≤ k)
-      go (inl g) = inr (let low = at.low in let sure' : h.last x ≤ h.stable j = subst (λ i. h.last x ≤ h.stable i) g sure in omega (arith, low, sure'))
-      go (inr d) = inl d
+  abbrev begun : ℕ → ℕ → ℕ
+  begun = s.recoverable.begun
 
-  -- the loose changes of a node are as they were, or those behind the last one of the page
-  abbrev IsFew : ℕ → List LooseChange → Type 0
-  IsFew j cs = (cs ≡ m.loose j) ⊎ (cs ≡ behind_page x (m.loose j))
-
-  few : (j : ℕ) → IsFew j (m'.loose j)
+  few : (j : ℕ) → IsFew m x j (m'.loose j)
   few j = by (m.hold x) refl
     where
-      from : (o : ℕ) (b : Bool) → (not (o == n) && is_up (m.mode o)) ≡ b → (j ≡ o) ⊎ (j ≢ o) → IsFew j ((if not (o == n) && is_up (m.mode o) then put o (behind_page x (m.loose o)) m.loose else m.loose) j)
-      from o false e at = rw e (inl refl)
-      from o true e (inl at) = rw e (inr (put_same o (behind_page x (m.loose o)) m.loose j at ∙ ap (λ i. behind_page x (m.loose i)) (sym at)))
-      from o true e (inr d) = rw e (inl (put_other o (behind_page x (m.loose o)) m.loose j d))
+      from : (o : ℕ) (b : Bool) → (not (o == n) && is_up (m.mode o)) ≡ b → IsFew m x j ((if not (o == n) && is_up (m.mode o) then put o (behind_page x (m.loose o)) m.loose else m.loose) j)
+      from o false e = rw e (inl refl)
+      from o true e = rw e (few_of_one m x o j)
 
-      by : (o : Option ℕ) → m.hold x ≡ o → IsFew j (loose_after_take x n m j)
+      by : (o : Option ℕ) → m.hold x ≡ o → IsFew m x j (loose_after_take x n m j)
       by None e = rw e (inl refl)
-      by (Some o) e = rw e (from o (not (o == n) && is_up (m.mode o)) refl (cases_eq j o))
+      by (Some o) e = rw e (from o (not (o == n) && is_up (m.mode o)) refl)
 
-  -- so the changes behind a cut stay
+  off : (j k : ℕ) → IsPlaceToCut h j k → list_any (touches x) (behind_cut h m j k) ≡ false
+  off j k at = off_page h m begun x s.stops sure j k at
+
   same : (j k : ℕ) → IsPlaceToCut h j k → (behind_cut h' m' j k ≡ behind_cut h m j k) × (length (h.live j) ≤ k + length (m'.loose j))
-  same j k at = go (few j)
-    where
-      z : Behind x (m.loose j)
-      z = behind_is x (m.loose j)
-
-      go : IsFew j (m'.loose j) → (behind_cut h' m' j k ≡ behind_cut h m j k) × (length (h.live j) ≤ k + length (m'.loose j))
-      go (inl e) = (
-        ap (λ (l : List LooseChange). drop (length l - (length (h.live j) - k)) l) e,
-        (let long = ap (λ (l : List LooseChange). length l) e in let old = s.stops.enough j in let low = at.low in omega (arith, long, old, low)),
-      )
-      go (inr e) =
-          let least = z.least (length (m.loose j) - (length (h.live j) - k)) (untouched x (behind_cut h m j k) (off j k at)) in
-          let old = s.stops.enough j in
-          let low = at.low in
-          let some = z.within in
-          let is : m'.loose j ≡ drop z.count (m.loose j) = e ∙ z.is in
-          let long : length (m'.loose j) ≡ length (m.loose j) - z.count = ap (λ (l : List LooseChange). length l) is ∙ length-drop z.count (m.loose j) in (
-            ap (λ (l : List LooseChange). drop (length l - (length (h.live j) - k)) l) is
-                ∙ (drop-drop (length (drop z.count (m.loose j)) - (length (h.live j) - k)) z.count (m.loose j)
-                ∙ ap (λ i. drop i (m.loose j)) (omega (arith, length-drop z.count (m.loose j), least, old, low, some))),
-            omega (arith, long, least, old, low, some),
-          )
+  same j k at = same_behind h m begun x s.stops sure j k (m'.loose j) at (few j)
 
   back : (j k : ℕ) → IsPlaceToCut h' j k → TakesBackTo h' m' s.recoverable.begun j k
   back j k at' = record {
@@ -137,7 +89,7 @@ module _ (dirty : ℕ → Bool) (h : History) (p : Plain) (m : Machine) (x n : �
     enough = λ j. (same j (h.stable j) (record { low = omega arith; high = s.recoverable.holds.history.sound j })).1;
     back = back;
     used = λ y k at in_use. used y k at in_use (cases_eq y x);
-    resting = λ j rest. resting j rest (few j);
+    resting = λ j rest. few_resting h m s.recoverable.begun x s.stops sure j (m'.loose j) rest (few j);
     owners = s.stops.owners;
     nodes = s.stops.nodes;
   }
@@ -147,10 +99,6 @@ module _ (dirty : ℕ → Bool) (h : History) (p : Plain) (m : Machine) (x n : �
       used y k at in_use (inr d) =
           let at' = subst (λ g. IsPlaceToCut h' g k) (rw (ne_eqb y x d) refl) at in
           rw (ne_eqb y x d) (s.stops.used y k (record { low = at'.low; high = at'.high }) (rw (ne_eqb y x d) at in_use))
-
-      resting : (j : ℕ) → m.mode j ≡ Idle → IsFew j (m'.loose j) → m'.loose j ≡ []
-      resting j rest (inl e) = e ∙ s.stops.resting j rest
-      resting j rest (inr e) = e ∙ ap (behind_page x) (s.stops.resting j rest)
 
 pub taken_survives : TakenSurvives
 taken_survives dirty h p m x n s clean map_held = record {

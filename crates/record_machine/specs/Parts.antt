@@ -74,6 +74,15 @@ loose_after_take x n m = from (m.hold x)
     from None = m.loose
     from (Some h) = if not (h == n) && is_up (m.mode h) then put h (behind_page x (m.loose h)) m.loose else m.loose
 
+-- Where a node that is up gives the page up, its log is stable up to its last change of the page, too. So these are the changes of
+-- each node that a stop may still take away once nobody holds the page.
+abbrev pub loose_after_drop : ℕ → Machine → ℕ → List LooseChange
+loose_after_drop x m = from (m.hold x)
+  where
+    from : Option ℕ → ℕ → List LooseChange
+    from None = m.loose
+    from (Some h) = if is_up (m.mode h) then put h (behind_page x (m.loose h)) m.loose else m.loose
+
 -- ---- what each part does
 
 -- one more deed of a transaction, whose log record is the next one
@@ -103,7 +112,7 @@ with_entry n map_page place e m = record m {
 abbrev pub one : Part → Machine → Machine
 one (Start n) m = record m { mode = put n Up m.mode; loose = put n [] m.loose }
 one (Take x n) m = record m { hold = put x (Some n) m.hold; loose = loose_after_take x n m }
-one (Drop x) m = record m { hold = put x None m.hold }
+one (Drop x) m = record m { hold = put x None m.hold; loose = loose_after_drop x m }
 one (Begin t) m = loosened t.node.0 (before t.node.0 [] None m) (done_by t None m)
 one (Use n map_page place g) m = loosened n (before n (map_page ∷ []) (Some map_page) m) (with_entry n map_page place (Used g (ident_of (slice_index_or (m.entries map_page) place (Free 0)))) m)
 one (FreePlace n map_page place) m = (let x = page_of_place m.shape map_page place in

@@ -21,7 +21,7 @@ ghost use Rattle.record_locks.specs.Held.{least_where, mode_of};
 ghost use Rattle.script_text.specs.declared.command.Command.{Command};
 ghost use Rattle.script_text.specs.declared.command.Command.TheVariants as asks;
 ghost use Rattle.record_machine.specs.Commands.{parts, takes};
-ghost use Rattle.record_machine.specs.Machine.{Deed, Down, LooseChange, Machine, Up, Write, deeds_of, formatted, free_place, home, newest_of, owed, seen, writes_of};
+ghost use Rattle.record_machine.specs.Machine.{Deed, Down, LooseChange, Machine, Up, Write, deeds_of, formatted, free_place, home, is_up, newest_of, owed, seen, writes_of};
 ghost use Rattle.record_machine.specs.Parts as part;
 ghost use Rattle.record_machine.specs.Parts.{dos, is_of_page, one};
 ghost use Rattle.record_machine.specs.Rows.{AreRows, HasNone, IsNext, Row};
@@ -123,14 +123,26 @@ pub fn law_of_stops()
 {}
 
 /// What a stop can't take away: all that was made sure, what a transaction had done when one of its node
-/// was sealed, and all changes of a page that another node has taken since.
+/// was sealed, and all changes of a page that another node has taken, or that the node has given up, since.
 pub fn law_of_sure_changes()
     ensures made { (m : Machine) (n : ℕ) → (one (part.Sure n) m).loose n ≡ [] }
     ensures sealed { (m : Machine) (t : TxnId) → (one (part.Seal t) m).loose t.node.0 ≡ [] }
     ensures started { (m : Machine) (n : ℕ) → (one (part.Start n) m).loose n ≡ [] }
     ensures taken { (m : Machine) (x n h : ℕ) → m.hold x ≡ Some h → h ≢ n → m.mode h ≡ Up → list_any (is_of_page x) ((one (part.Take x n) m).loose h) ≡ false }
+    ensures dropped { (m : Machine) (x h : ℕ) → m.hold x ≡ Some h → m.mode h ≡ Up → list_any (is_of_page x) ((one (part.Drop x) m).loose h) ≡ false }
     // Whatever a node has still to lose then, it had before.
     ensures left { (m : Machine) (x n h : ℕ) → (count : ℕ) × ((one (part.Take x n) m).loose h ≡ drop count (m.loose h)) }
+    ensures left_by_drop { (m : Machine) (x h : ℕ) → (count : ℕ) × ((one (part.Drop x) m).loose h ≡ drop count (m.loose h)) }
+{}
+
+/// A page passes from a node to another one: given up and then taken, it is as if it were taken at once, and
+/// what both nodes may lose is. A page that its holder takes again changes nothing.
+pub fn law_of_passed_pages()
+    ensures holds { (m : Machine) (x n y : ℕ) → (one (part.Take x n) (one (part.Drop x) m)).hold y ≡ (one (part.Take x n) m).hold y }
+    // But a node that is up and gives up a page has made sure its changes of it, also where it takes it again itself.
+    ensures loose { (m : Machine) (x n j : ℕ) → (m.hold x ≡ Some n → is_up (m.mode n) ≡ false) → (one (part.Take x n) (one (part.Drop x) m)).loose j ≡ (one (part.Take x n) m).loose j }
+    ensures again { (m : Machine) (x n y : ℕ) → m.hold x ≡ Some n → (one (part.Take x n) m).hold y ≡ m.hold y }
+    ensures again_loose { (m : Machine) (x n j : ℕ) → m.hold x ≡ Some n → (one (part.Take x n) m).loose j ≡ m.loose j }
 {}
 
 /// Where a command isn't refused, no page that it takes is held by a node that is down.

@@ -1,4 +1,4 @@
--- Whoever holds a page, what a store shows of it is the same; and which pages nodes that are down hold.
+-- Which pages nodes that are down hold; and a page that is taken once it is nobody's.
 use Rattle.std.specs.Prelude.{◌≡◌, ◌==◌, ◌<◌, ◌≤◌, ℕ, Bool, true, false, not, List, Option, Some, None, refl}
 use Rattle.std.proofs.Common.{arith, inl, inr, ap, ◌∙◌}
 use Rattle.sd_base.specs.Disk.{BlockState}
@@ -12,26 +12,16 @@ use Rattle.page_owner.specs.Owners.{owner_of}
 use Rattle.script_text.specs.declared.reply.Reply.TheVariants as says
 use Rattle.record_machine.specs.Commands.{where_so}
 use Rattle.record_machine.specs.Machine.{Machine, is_down, put}
-use Rattle.record_machine.specs.Machine as mode
-use Rattle.record_machine.specs.Meaning.{Means, Plain}
-use Rattle.record_machine.specs.Parts.{Drop, Take, one}
+use Rattle.record_machine.specs.Meaning.{Plain}
+use Rattle.record_machine.specs.Parts.{Drop, Take, loose_after_take, one}
 use Rattle.record_machine.specs.Steps.{held_page}
+use Rattle.record_machine.proofs.RestSteps.{means_rest}
 use Rattle.store_nodes.specs.declared.node.Node.{Node}
 use Rattle.store_nodes.specs.declared.node.Node.TheVariants.{Idle, Up, Down}
 use Rattle.store_nodes.specs.declared.store.Store.{Store}
 use Rattle.store_nodes.specs.Known.{held_by, held_in}
 use Rattle.store_nodes.specs.Nodes.{IsHeldBy, IsNode, IsPlace, IsStore, is_up, node_at}
 use Rattle.store_nodes.specs.Shows.{IsShown, ShowsNode, ShowsStore, ShowsStoreOf, holder}
-
--- ---- the machine, where another node holds the page
-
-pub means_held : (p : Plain) (m : Machine) (x : ℕ) (h : Option ℕ) → Means p m → Means p (record m { hold = put x h m.hold })
-means_held p m x h was = record {
-  pages = record { shape = was.pages.shape; count = was.pages.count; map_number = was.pages.map_number; number = was.pages.number; entries = was.pages.entries; map_ident = was.pages.map_ident; ident = was.pages.ident; alive = was.pages.alive; unused = was.pages.unused; present = was.pages.present; absent = was.pages.absent };
-  logs = record { tail = was.logs.tail; deeds = was.logs.deeds; rising = was.logs.rising; homes = was.logs.homes };
-  locked = record { apart = was.locked.apart; written = was.locked.written };
-  tops = was.tops;
-}
 
 -- ---- pages that a node has which is down
 
@@ -74,14 +64,6 @@ held_shown c x b m is within shown = by (owner_of c.shared.owners x.0) refl
 
 -- ---- a page that is taken once it is nobody's
 
-means_dropped : (p : Plain) (m : Machine) (x n : ℕ) → Means p (one (Take x n) (one (Drop x) m)) → Means p (one (Take x n) m)
-means_dropped p m x n was = record {
-  pages = record { shape = was.pages.shape; count = was.pages.count; map_number = was.pages.map_number; number = was.pages.number; entries = was.pages.entries; map_ident = was.pages.map_ident; ident = was.pages.ident; alive = was.pages.alive; unused = was.pages.unused; present = was.pages.present; absent = was.pages.absent };
-  logs = record { tail = was.logs.tail; deeds = was.logs.deeds; rising = was.logs.rising; homes = was.logs.homes };
-  locked = record { apart = was.locked.apart; written = was.locked.written };
-  tops = was.tops;
-}
-
 node_dropped : (s : Shape) (pool : List (Option (List ℕ))) (k : ℕ) (o : Node) (b : ℕ → BlockState) (p : Plain) (m : Machine) (x n : ℕ) → ShowsNode s pool k o b p (one (Take x n) (one (Drop x) m)) → ShowsNode s pool k o b p (one (Take x n) m)
 node_dropped s pool k Idle b p m x n was = (was.0, record { legal = was.1.legal; still = was.1.still; content = was.1.content; clean = was.1.clean; names = was.1.names; none = was.1.none })
 node_dropped s pool k (Up c seats) b p m x n was = (was.0, record { records = was.1.records; told = was.1.told; start = was.1.start; cached = was.1.cached; lives = was.1.lives; deeds = was.1.deeds; within = was.1.within })
@@ -92,7 +74,7 @@ dropped_taken c b m x n shown = (
   shown.0,
   record {
     nodes = record {
-      means = means_dropped shown.0 m x n was.means;
+      means = means_rest shown.0 (one (Take x n) (one (Drop x) m)) m.mode m.reopening (put x (Some n) m.hold) m.first (loose_after_take x n m) m.gone was.means;
       shape = was.shape;
       node = λ k k_is low. node_dropped c.shape c.shared.pool k (node_at c.nodes k) b shown.0 m x n (was.node k k_is low);
       stored = was.stored;

@@ -1,6 +1,7 @@
 use Rattle.record_machine.proofs.DeedStops.{back_survives, begun_survives, changed_survives}
+use Rattle.record_machine.proofs.DroppedStops.{dropped_survives}
 use Rattle.record_machine.proofs.SealStops.{aborted_survives, committed_survives}
-use Rattle.record_machine.proofs.StillStops.{dropped_survives, forced_survives, formatted_survives, locked_survives, started_survives, sure_survives, unlocked_survives, written_survives}
+use Rattle.record_machine.proofs.StillStops.{forced_survives, formatted_survives, locked_survives, started_survives, sure_survives, unlocked_survives, written_survives}
 use Rattle.record_machine.proofs.TakenStops.{taken_survives}
 use Rattle.record_machine.proofs.UseStops.{used_survives}
 use Rattle.record_machine.proofs.surviving.law_of_surviving_stores.Goals as goal

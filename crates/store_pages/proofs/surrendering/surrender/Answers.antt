@@ -10,6 +10,7 @@ use Rattle.node_cache.specs.Cache.{page_at}
 use Rattle.node_cache.proofs.ChangedPages.{out_of_shown}
 use Rattle.node_cache.proofs.RoomLaws.{same_content}
 use Rattle.record_machine.specs.Parts.{Drop, one}
+use Rattle.record_machine.proofs.RestSteps.{means_dropped}
 use Rattle.store_nodes.specs.declared.node.Node.TheVariants.{Down, Up}
 use Rattle.store_nodes.specs.Nodes.{AreApart, IsAtWork, IsStoreButOf, IsStoreOf, KeepsFramesBut, OnUp, node_at, pages_of, with_node}
 use Rattle.store_nodes.specs.Pages.{GivesUp}
@@ -22,7 +23,6 @@ use Rattle.store_nodes.proofs.Others.{KeepsHeldBy}
 use Rattle.store_pages.proofs.PageCalls as calls
 use Rattle.store_pages.proofs.Shares.{apart_given, frames_given, owner_given, store_worked}
 use Rattle.store_pages.proofs.ShownGiven.{stored_given, up_given}
-use Rattle.store_pages.proofs.ShownHeld.{means_held}
 use Rattle.store_nodes.proofs.ShownWith.{shown_with}
 use Rattle.store_nodes.proofs.Works.{page_still, up_most}
 use Rattle.store_pages.proofs.surrendering.surrender.Given as given
@@ -161,7 +161,7 @@ returns-in-Ok-clause-shows g c = λ told m shown_by.
             (shown_with s me.shared.pool done.new.pool me.shared.owners (slice_set me.shared.owners x.0 Nobody) me.nodes n d seats a b p p m (one (Drop x.0) m) is c.requires.node was
             (calls.logs_paged me n c.place.result k d seats is c.requires.node c.place.ensures.is up a b _ (done.ensures.foreign told) (c.requires.quiet told)) (frames_of g c)
             (λ j j_is far. record { live = refl; mode = refl; start = refl; pending = refl; images = λ i e below. refl; lives = λ i e below. refl })
-            (means_held p m x.0 None was.means) was.shape mine.0
+            (means_dropped p m x.0 was.means) was.shape mine.0
             (up_given s me.shared.pool done.new.pool n x k d seats a b p m work.cache c.in-Ok.ensures.pool c.in-Ok.ensures.pages done.ensures.same (c.in-Ok.ensures.log told) mine.1)
             stored
             (λ y within. put_at x.0 None m.hold (λ k. holder (owner_of me.shared.owners k)) y (was.hold y within) ∙ sym (holder_set me.shared.owners x.0 Nobody (let table = is.shared.table in let page = c.requires.page in omega (arith, table, page)) y))));
