@@ -13,6 +13,7 @@ pub mod Broken
 pub mod HaltedNodes
 pub mod StoppedEndures
 pub mod MayHalts
+pub mod RingEndures
 pub mod LoggedEndures
 pub mod EnduresBegun
 pub mod ShownBegin
