@@ -14,6 +14,7 @@ pub mod HaltedNodes
 pub mod StoppedEndures
 pub mod MayHalts
 pub mod LoggedEndures
+pub mod LastRecords
 pub mod EnduresBegun
 pub mod ShownBegin
 pub mod ShownEnd
@@ -28,6 +29,7 @@ pub mod OtherRecords
 pub mod ShownUse
 pub mod LogReplies
 pub mod LeftWrites
+pub mod Seated
 pub mod BackDeeds
 pub mod ShownBack
 pub mod ShownReopening

@@ -25,7 +25,7 @@ use Rattle.store_nodes.specs.Endures.{AreBusy, AreClean, AreGone, EnduresAs, May
 use Rattle.store_nodes.specs.Nodes.{IsAtWork, IsPlace, IsStore, node_at, with_node}
 use Rattle.store_nodes.specs.Ports.{IsQuiet}
 use Rattle.store_nodes.specs.Shows.{ShowsNodes, ShowsUp}
-use Rattle.store_nodes.specs.Tied.{TiesNode, TiesPage, TiesUp}
+use Rattle.store_nodes.specs.Tied.{AreLatest, TiesNode, TiesPage, TiesUp}
 use Rattle.store_nodes.proofs.Eight.{others_stay}
 use Rattle.store_nodes.proofs.Logs as logs
 use Rattle.store_nodes.proofs.MayHalts.{clean_halting, may_halt}
@@ -48,7 +48,7 @@ module _ (me : Store) (n i : ℕ) (c d : CacheState) (seats after : SeatsState) 
   low : n ≤ me.shape.nodes
   low = logs.low me n i c d seats after is place at up
 
-  was_tied : TiesUp n c e.history
+  was_tied : TiesUp n c seats e.history
   was_tied = subst (λ o. TiesNode me.shape n o b e.history) up (e.tied.node n place low)
 
   page : (x : PageNo) → x.0 < page_count me.shape → TiesPage me.shape b' h' x
@@ -58,9 +58,9 @@ module _ (me : Store) (n i : ℕ) (c d : CacheState) (seats after : SeatsState) 
   S nodes = record { shape = me.shape; shared = me.shared; nodes = nodes }
 
   -- it is done
-  pub logged_endures : m'.mode n ≡ machine.Up → d.pages ≡ c.pages → SameLog c.log d.log → h'.stable n ≡ e.history.stable n → c.log.stable ≤ d.log.stable → AreBusy m' → m'.locks ≡ m.locks → ShowsUp me.shape me.shared.pool n d after b' p' (with_held e.held m') → SurvivesAs e.held e.dirty h' p' m'
+  pub logged_endures : m'.mode n ≡ machine.Up → d.pages ≡ c.pages → SameLog c.log d.log → h'.stable n ≡ e.history.stable n → c.log.stable ≤ d.log.stable → AreLatest (e.history.devices.first n) (h'.live n) after → AreBusy m' → m'.locks ≡ m.locks → ShowsUp me.shape me.shared.pool n d after b' p' (with_held e.held m') → SurvivesAs e.held e.dirty h' p' m'
       → EnduresAs (S (with_node me.nodes n (Up d after))) b' p' m'
-  logged_endures live same_pages same stable rises busy locks shows survives = record {
+  logged_endures live same_pages same stable rises latest busy locks shows survives = record {
     held = e.held;
     dirty = e.dirty;
     history = h';
@@ -70,7 +70,7 @@ module _ (me : Store) (n i : ℕ) (c d : CacheState) (seats after : SeatsState) 
     lockers = busy;
     clean = λ whole x within settled. e.clean (sym reopening ∙ whole) x within (settled_before me.nodes me.shared.owners n c d seats after is.shared.eight place up x (is.shared.holders x.0) (λ clean. sym (changed_same x c d same_pages) ∙ clean) settled);
     lost = λ x within none. ap (λ f. f x) gone ∙ e.lost x within (sym (ap (λ f. f x) disk) ∙ none);
-    tied = tied_with me.shape me.nodes n (Up d after) b b' e.history h' is.shared.eight place e.tied others logged (up_tied n c d e.history h' first stable same rises was_tied) page;
+    tied = tied_with me.shape me.nodes n (Up d after) b b' e.history h' is.shared.eight place e.tied others logged (up_tied n c d seats after e.history h' first stable same rises latest was_tied) page;
     survives = survives;
   }
 
