@@ -15,6 +15,7 @@ pub mod StoppedEndures
 pub mod MayHalts
 pub mod RingEndures
 pub mod LoggedEndures
+pub mod LastRecords
 pub mod EnduresBegun
 pub mod ShownBegin
 pub mod ShownEnd
@@ -29,6 +30,7 @@ pub mod OtherRecords
 pub mod ShownUse
 pub mod LogReplies
 pub mod LeftWrites
+pub mod Seated
 pub mod BackDeeds
 pub mod ShownBack
 pub mod ShownReopening

@@ -22,7 +22,7 @@ use Rattle.store_nodes.specs.Endures.{AreBusy, EnduresAs, MayHaltAs, with_held}
 use Rattle.store_nodes.specs.Nodes.{IsPlace, IsStore, node_at, with_node}
 use Rattle.store_nodes.specs.Ports.{IsQuiet}
 use Rattle.store_nodes.specs.Shows.{ShowsUp}
-use Rattle.store_nodes.specs.Tied.{TiesNode, TiesUp}
+use Rattle.store_nodes.specs.Tied.{AreLatest, TiesNode, TiesUp}
 use Rattle.store_nodes.proofs.Logs as logs
 use Rattle.store_nodes.proofs.RingEndures.{ring_endures, ring_halts}
 use Rattle.store_nodes.proofs.ShownOthers.{LeavesNode}
@@ -35,17 +35,17 @@ module _ (me : Store) (n i : ℕ) (c d : CacheState) (seats after : SeatsState) 
   low : n ≤ me.shape.nodes
   low = logs.low me n i c d seats after is place at up
 
-  was_tied : TiesUp n c e.history
+  was_tied : TiesUp n c seats e.history
   was_tied = subst (λ o. TiesNode me.shape n o b e.history) up (e.tied.node n place low)
 
   abbrev S : List Node → Store
   S nodes = record { shape = me.shape; shared = me.shared; nodes = nodes }
 
   -- it is done
-  pub logged_endures : m'.mode n ≡ machine.Up → d.pages ≡ c.pages → SameLog c.log d.log → h'.stable n ≡ e.history.stable n → c.log.stable ≤ d.log.stable → AreBusy m' → m'.locks ≡ m.locks → ShowsUp me.shape me.shared.pool n d after b' p' (with_held e.held m') → SurvivesAs e.held e.dirty h' p' m'
+  pub logged_endures : m'.mode n ≡ machine.Up → d.pages ≡ c.pages → SameLog c.log d.log → h'.stable n ≡ e.history.stable n → c.log.stable ≤ d.log.stable → AreLatest (e.history.devices.first n) (h'.live n) after → AreBusy m' → m'.locks ≡ m.locks → ShowsUp me.shape me.shared.pool n d after b' p' (with_held e.held m') → SurvivesAs e.held e.dirty h' p' m'
       → EnduresAs (S (with_node me.nodes n (Up d after))) b' p' m'
-  logged_endures live same_pages same stable rises busy locks shows survives =
-      ring_endures me n i (c.log.tail / 6) c d seats after is place at up b b' p p' m m' e h' narrows foreign quiet shape reopening gone hold disk first leaves logged e.held me.shared.locks live same_pages (up_tied n c d e.history h' first stable same rises was_tied) busy (locks ∙ e.locks) shows survives
+  logged_endures live same_pages same stable rises latest busy locks shows survives =
+      ring_endures me n i (c.log.tail / 6) c d seats after is place at up b b' p p' m m' e h' narrows foreign quiet shape reopening gone hold disk first leaves logged e.held me.shared.locks live same_pages (up_tied n c d seats after e.history h' first stable same rises latest was_tied) busy (locks ∙ e.locks) shows survives
 
   -- or the node is about to halt, whose port has stopped in it
   pub logged_halts : (b'' : ℕ → BlockState) → m'.mode n ≡ machine.Up → Narrows b' b'' → KeepsForeign n b' b'' → All IsLegal (h'.live n) → (cut : IsCutLog (region c.log) c.log.start c.log.stable b' (map record_text (h'.live n))) → h'.stable n ≤ cut.count → IsStill (region c.log) b' → AreBusy m' → m'.locks ≡ m.locks → SurvivesAs e.held e.dirty h' p' m'

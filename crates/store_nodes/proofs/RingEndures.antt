@@ -1,5 +1,5 @@
 -- A store endures a call of a node that writes one block of its log, where its pages stay: what it leaves, done or stopped.
-use Rattle.std.specs.Prelude.{◌≡◌, ◌≢◌, ◌-◌, ◌*◌, ◌<◌, ◌≤◌, ℕ, All, List, Option, length, map, refl}
+use Rattle.std.specs.Prelude.{◌≡◌, ◌≢◌, ◌-◌, ◌*◌, ◌<◌, ◌≤◌, ℕ, All, List, length, map, refl}
 use Rattle.std.proofs.Common.{ap, subst, sym, ◌∙◌, length-set}
 use Rattle.sd_base.specs.Disk.{BlockState}
 use Rattle.sd_base.specs.Calls.{KeepsForeign, KeepsForeignBut, Narrows}
@@ -50,7 +50,7 @@ module _ (me : Store) (n i number : ℕ) (c d : CacheState) (seats after : Seats
   others = others_leave me.shape me.nodes n (place (region c.log) number) b b' is.shared.shape place_is.0 low (up_most me.shape me.shared.pool me.shared.owners me.nodes is) (place_inside me.shape n c number work.number work.store work.log_tie) quiet
       (subst (λ k. KeepsForeignBut (place (region c.log) number) k b b') work.number foreign)
 
-  was_tied : TiesUp n c e.history
+  was_tied : TiesUp n c seats e.history
   was_tied = subst (λ o. TiesNode me.shape n o b e.history) up (e.tied.node n place_is low)
 
   page : (x : PageNo) → x.0 < page_count me.shape → TiesPage me.shape b' h' x
@@ -64,7 +64,7 @@ module _ (me : Store) (n i number : ℕ) (c d : CacheState) (seats after : Seats
   S locks nodes = record { shape = me.shape; shared = record { pool = me.shared.pool; owners = me.shared.owners; locks = locks; reopening = me.shared.reopening }; nodes = nodes }
 
   -- it is done, and the nodes have these locks
-  pub ring_endures : (held locks : Held) → m'.mode n ≡ machine.Up → d.pages ≡ c.pages → TiesUp n d h' → AreBusy m' → m'.locks ≡ locks → ShowsUp me.shape me.shared.pool n d after b' p' (with_held held m') → SurvivesAs held e.dirty h' p' m'
+  pub ring_endures : (held locks : Held) → m'.mode n ≡ machine.Up → d.pages ≡ c.pages → TiesUp n d after h' → AreBusy m' → m'.locks ≡ locks → ShowsUp me.shape me.shared.pool n d after b' p' (with_held held m') → SurvivesAs held e.dirty h' p' m'
       → EnduresAs (S locks (with_node me.nodes n (Up d after))) b' p' m'
   ring_endures held locks live same_pages tied busy same_locks shows survives = record {
     held = held;

@@ -51,7 +51,7 @@ module _ (me : Store) (n i : ℕ) (c d : CacheState) (seats : SeatsState) (is : 
   mine : ShowsNode me.shape me.shared.pool n (Up c seats) b p (with_held e.held m)
   mine = subst (λ o. ShowsNode me.shape me.shared.pool n o b p (with_held e.held m)) up (e.nodes.node n place low)
 
-  tied : TiesUp n c h
+  tied : TiesUp n c seats h
   tied = subst (λ o. TiesNode me.shape n o b h) up (e.tied.node n place low)
 
   live : h.live n ≡ p.live n
@@ -73,7 +73,7 @@ module _ (me : Store) (n i : ℕ) (c d : CacheState) (seats : SeatsState) (is : 
         e.held me.shared.locks mine.0 pages ties e.lockers e.locks (up_kept me.shape me.shared.pool n c d seats b b' p (with_held e.held m) (with_held e.held (one (Sure n) m)) refl refl (ap (map written_back) pages) same records mine.1) survives_sure,
   )
     where
-      ties : TiesUp n d h'
+      ties : TiesUp n d seats h'
       ties = record {
         first = tied.first ∙ ap (λ k. 6 * k) (sym same.start);
         stable = (
@@ -82,6 +82,7 @@ module _ (me : Store) (n i : ℕ) (c d : CacheState) (seats : SeatsState) (is : 
             let count : length (h.live n) ≡ length (p.live n) = ap length live in
             let long = length_shown n me.shape me.shared.pool c seats b p (with_held e.held m) mine.1 in
             omega (arith, begins, all, count, long, stable));
+        latest = tied.latest;
       }
 
   -- or the node is about to halt, whose port has stopped in it
@@ -90,7 +91,7 @@ module _ (me : Store) (n i : ℕ) (c d : CacheState) (seats : SeatsState) (is : 
     p,
     ring_halts me n i ((c.log.tail - 1) / 6) c d seats seats is place at up b b' p p m m e h narrows foreign quiet refl refl refl (λ x. refl) refl refl
         (λ k k_is far. record { live = refl; mode = refl; start = refl; pending = refl; images = λ j q below. refl; lives = λ j q below. refl }) (λ k far. record { live = refl; stable = refl; first = refl })
-        b'' mine.0 settled stops (subst (All IsLegal) (sym live) mine.1.records.legal) cut (stable_cut n c b' h _ cut tied) still e.lockers refl e.survives,
+        b'' mine.0 settled stops (subst (All IsLegal) (sym live) mine.1.records.legal) cut (stable_cut n c b' h _ cut tied.stable) still e.lockers refl e.survives,
   )
     where
       cut : IsCutLog (region c.log) c.log.start c.log.stable b' (map record_text (h.live n))
