@@ -17,6 +17,7 @@ pub mod RingEndures
 pub mod LoggedEndures
 pub mod LastRecords
 pub mod EnduresBegun
+pub mod EnduresEnded
 pub mod ShownBegin
 pub mod ShownEnd
 pub mod Logs
