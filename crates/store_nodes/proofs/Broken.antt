@@ -37,3 +37,10 @@ of_stop n (Stopped h) P is was = was
 of_stop n (Failed h) P is was = was
 of_stop n (Lost at) P is was = absurd is
 of_stop n (Damaged at) P is was = absurd is
+
+-- what holds in any case holds on a stop
+pub on_stop : (fault : DevFault) (P : Type 0) → P → OnStop fault P
+on_stop (Stopped h) P was = was
+on_stop (Failed h) P was = was
+on_stop (Lost at) P was = tt
+on_stop (Damaged at) P was = tt
