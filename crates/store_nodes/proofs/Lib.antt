@@ -15,7 +15,10 @@ pub mod StoppedEndures
 pub mod MayHalts
 pub mod LoggedEndures
 pub mod LastRecords
+pub mod RoomShown
 pub mod EnduresBegun
+pub mod ChangedEndures
+pub mod EnduresChanged
 pub mod ShownBegin
 pub mod ShownEnd
 pub mod Logs
