@@ -16,6 +16,7 @@ pub mod MayHalts
 pub mod RingEndures
 pub mod LoggedEndures
 pub mod LastRecords
+pub mod ChangedEndures
 pub mod EnduresBegun
 pub mod ShownBegin
 pub mod ShownEnd
@@ -33,5 +34,7 @@ pub mod LeftWrites
 pub mod Seated
 pub mod BackDeeds
 pub mod ShownBack
+pub mod RuledBacks
+pub mod BackEndures
 pub mod ShownReopening
 pub mod Holders
