@@ -1,9 +1,9 @@
 -- What a call of one node leaves of what the logs and pages of a store say of its history.
-use Rattle.std.specs.Prelude.{◌≡◌, ◌≢◌, ◌⊎◌, ◌+◌, ◌*◌, ◌≤◌, ◌<◌, ◌++◌, ◌∷◌, [], ℕ, Bool, true, false, All, List, Option, Some, None, MatchOption, length, map, take, refl}
+use Rattle.std.specs.Prelude.{◌≡◌, ◌≢◌, ◌+◌, ◌*◌, ◌/◌, ◌≤◌, ◌<◌, ℕ, All, List, None, MatchOption, length, map, take, refl}
 use Rattle.std.proofs.Common.{arith, inl, inr, ap, subst, sym, ◌∙◌, length-take-le}
 use Rattle.std.proofs.lemmas.List.{length-map, take-map}
 use Rattle.std.proofs.lemmas.List.Elements.{All-take}
-use Rattle.sd_base.specs.Disk.{BlockState, MayHold}
+use Rattle.sd_base.specs.Disk.{BlockState}
 use Rattle.sd_base.specs.Calls.{KeepsForeign, Narrows}
 use Rattle.sd_base.specs.Shape.{page_count}
 use Rattle.sd_base.specs.declared.names.PageNo.{PageNo}
@@ -11,25 +11,24 @@ use Rattle.sd_base.specs.declared.shape.Shape.{Shape}
 use Rattle.log_record.specs.declared.record.LogRecord.{LogRecord}
 use Rattle.log_record.specs.Legal.{IsLegal}
 use Rattle.log_record.specs.Text.{record_text}
-use Rattle.private_log.specs.Content.{region_of}
+use Rattle.private_log.specs.Content.{place, region_of}
 use Rattle.private_log.specs.Frames.{NarrowsBeside}
 use Rattle.private_log.specs.Log.{SameLog, next_place, region}
 use Rattle.private_log.specs.Spread.{IsCutLog, IsSpread, IsStill}
 use Rattle.private_log.proofs.SpreadLaws.{narrowed_log}
-use Rattle.page_owner.specs.declared.owners.Own.{Own}
 use Rattle.state_ids.specs.Blocks.{HoldsPage, page_place}
 use Rattle.node_cache.specs.Cache.{CacheState, IsOfStore, IsTiedToLog}
 use Rattle.node_cache.proofs.DiskTie.{not_in_ring}
 use Rattle.txn_core.specs.Seats.{SeatsState}
 use Rattle.recovery_theory.specs.History.{History}
-use Rattle.recovery_theory.specs.Steps.{IsPlaceToCut, set_at, stopped}
+use Rattle.recovery_theory.specs.Steps.{IsPlaceToCut, stopped}
 use Rattle.recovery_theory.proofs.Cuts.{set_at-other, set_at-same}
 use Rattle.store_nodes.specs.declared.node.Node.{Node}
 use Rattle.store_nodes.specs.declared.node.Node.TheVariants.{Idle, Up, Down}
-use Rattle.store_nodes.specs.Nodes.{IsPlace, IsStoreOf, node_at, with_node}
+use Rattle.store_nodes.specs.Nodes.{IsPlace, node_at, with_node}
 use Rattle.store_nodes.specs.Tied.{AreLatest, IsTied, TiesNode, TiesPage, TiesStill, TiesUp}
 use Rattle.store_nodes.proofs.Eight.{each_with}
-use Rattle.store_nodes.proofs.OtherLogs.{LeavesRegion, region_settled, region_then}
+use Rattle.store_nodes.proofs.OtherLogs.{LeavesRegion, region_settled}
 
 -- ---- a node of which nothing has changed
 
@@ -71,13 +70,17 @@ module _ (s : Shape) (nodes : List Node) (n : ℕ) (node' : Node) (b b' : ℕ �
     page = pages;
   }
 
--- ---- the pages, where only a log was written
+-- ---- the pages, where only a block of a log was written
 
-pub pages_beside : (s : Shape) (nodes : List Node) (c : CacheState) (b b' : ℕ → BlockState) (h h' : History) → IsOfStore s c → IsTiedToLog c → NarrowsBeside (next_place c.log) b b' → h'.devices.disk ≡ h.devices.disk → IsTied s nodes b h → (x : PageNo) → x.0 < page_count s → TiesPage s b' h' x
-pages_beside s nodes c b b' h h' store tie narrows same was x low o may = subst (λ disk. MatchOption (disk x.0) (o ≡ None) (λ i. HoldsPage s x i o)) (sym same) (elim (narrows (page_place s x) o may) [
+pub pages_beside_block : (s : Shape) (nodes : List Node) (c : CacheState) (number : ℕ) (b b' : ℕ → BlockState) (h h' : History) → IsOfStore s c → IsTiedToLog c → NarrowsBeside (place (region c.log) number) b b' → h'.devices.disk ≡ h.devices.disk → IsTied s nodes b h → (x : PageNo) → x.0 < page_count s → TiesPage s b' h' x
+pages_beside_block s nodes c number b b' h h' store tie narrows same was x low o may = subst (λ disk. MatchOption (disk x.0) (o ≡ None) (λ i. HoldsPage s x i o)) (sym same) (elim (narrows (page_place s x) o may) [
   | inl old ↦ was.page x low o old
   | inr log ↦ absurd (not_in_ring s c store tie _ x log)
 ])
+
+-- as one record more was
+pub pages_beside : (s : Shape) (nodes : List Node) (c : CacheState) (b b' : ℕ → BlockState) (h h' : History) → IsOfStore s c → IsTiedToLog c → NarrowsBeside (next_place c.log) b b' → h'.devices.disk ≡ h.devices.disk → IsTied s nodes b h → (x : PageNo) → x.0 < page_count s → TiesPage s b' h' x
+pages_beside s nodes c = pages_beside_block s nodes c (c.log.tail / 6)
 
 -- and where then no block has a new outcome
 pub pages_narrowed : (s : Shape) (b b' : ℕ → BlockState) (h h' : History) → Narrows b b' → h'.devices.disk ≡ h.devices.disk → ((x : PageNo) → x.0 < page_count s → TiesPage s b h x) → (x : PageNo) → x.0 < page_count s → TiesPage s b' h' x
