@@ -26,6 +26,7 @@ use Rattle.private_log.specs.Spread.{IsStill}
 use Rattle.record_machine.specs.Machine.{formatted}
 use Rattle.record_machine.specs.Meaning.{born}
 use Rattle.record_machine.proofs.FormattedLaws.{means_formatted}
+use Rattle.state_ids.specs.Blocks.{HoldsPage, page_place}
 use Rattle.state_ids.specs.PageImage.{IsText}
 use Rattle.store_format.specs.Device.{IsIdle, NarrowsAt, TakesOver}
 use Rattle.store_format.specs.Formatted.{IsBornDisk}
@@ -42,7 +43,7 @@ use Rattle.store_nodes.proofs.Living.{living}
 use Rattle.store_pages.proofs.Takes.{but_of}
 
 -- each of the eight is idle
-abbrev eight : List Node
+abbrev pub eight : List Node
 eight = replicate 8 Idle
 
 pub idle_eight : (n : ℕ) → IsPlace n → node_at eight n ≡ Idle
@@ -110,12 +111,12 @@ opened_served s nodes disk vault nodes_are whole idle vault_idle = record {
 
 -- ---- what it shows
 
--- each page is on the disk as it is born
-born_stored : (s : Shape) (b : ℕ → BlockState) → IsShape s → IsBornDisk s b → (x : PageNo) → x.0 < page_count s → IsOnDisk s b (born s) x
-born_stored s b valid disk x within o may =
+-- whatever a stop leaves, each page is on the disk as it is born,
+pub born_held : (s : Shape) (b : ℕ → BlockState) → IsShape s → IsBornDisk s b → (x : PageNo) → x.0 < page_count s → (o : Option (List ℕ)) → MayHold b (page_place s x) o → HoldsPage s x (image_in s (born s) x) o
+born_held s b valid disk x within o may =
     let is = living s (born s) (formatted s) refl (means_formatted s valid).pages x within in
     let text = by (nat_lt x.0 s.maps) refl in
-    (image_in s (born s) x, (text.0, text.1, text.2, is.0, is.1), is.2)
+    (text.0, text.1, text.2, is.0, is.1)
   where
     by : (low : Bool) → nat_lt x.0 s.maps ≡ low → (bytes : List ℕ) × (o ≡ Some bytes) × IsText (image_in s (born s) x) bytes
     by true low =
@@ -124,6 +125,10 @@ born_stored s b valid disk x within o may =
     by false high =
         let far : s.maps ≤ x.0 = grind (arith, nat_tests) in
         (image_text (birth_image x s.birth), disk.pages x.0 far within o may, rw high record { image = IsImage-birth_image x s.birth (omega (arith, valid.birth)); text = refl })
+
+-- which is what it is at present
+born_stored : (s : Shape) (b : ℕ → BlockState) → IsShape s → IsBornDisk s b → (x : PageNo) → x.0 < page_count s → IsOnDisk s b (born s) x
+born_stored s b valid disk x within o may = (image_in s (born s) x, born_held s b valid disk x within o may, (living s (born s) (formatted s) refl (means_formatted s valid).pages x within).2)
 
 -- the log of a node is empty
 idle_formatted : (s : Shape) (n : ℕ) (b : ℕ → BlockState) → IsStill (region_of s n) b → LogContent (region_of s n) (contents b) 0 [] → HasNoFuture (region_of s n) (contents b) 0 [] → ShowsIdle s n b (born s) (formatted s)

@@ -10,6 +10,7 @@ ghost use Rattle.store_format.specs.Device.{ComesToRest, IsIdle, NarrowsAt, Take
 ghost use Rattle.store_format.specs.Formatted.{IsBornDisk, IsFormattedDisk, IsFormattedVault, TakesDisk, TakesVault};
 ghost use Rattle.store_format.specs.Refusal.{FitsSizes, HasSuper, IsFormatRefusal, IsRefusal, MayHaveSuper, MustHaveSuper, OnFound};
 ghost use Rattle.store_nodes.specs.declared.node.Node.TheVariants.{Idle};
+ghost use Rattle.store_nodes.specs.Endures.{Endures};
 ghost use Rattle.store_nodes.specs.Nodes.{IsPlace, IsStore, OthersStay, is_up, node_at};
 ghost use Rattle.store_nodes.specs.Ports.{IsQuiet, IsReady, says_stop};
 ghost use Rattle.store_nodes.specs.Shows.{ShowsStore};
@@ -183,6 +184,7 @@ impl Cluster {
         ensures ready { IfOk result (λ c. IsReady c (D.state disk.new) (V.state vault.new)) }
         ensures quiet { IfOk result (λ c. IsTrue D.told → IsQuiet c (D.state disk.new).block) }
         ensures shows { IfOk result (λ c. IsTrue D.told → ShowsStore c (D.state disk.new).block (born s) (formatted s)) }
+        ensures endures { IfOk result (λ c. IsTrue D.told → Endures c (D.state disk.new).block (formatted s)) }
         ensures disk_done { OnOk result (IsTrue D.told → IsFormattedDisk s (D.state disk.new).block) }
         ensures vault_done { OnOk result (IsTrue V.told → IsFormattedVault s (V.state vault.new).block) }
     {

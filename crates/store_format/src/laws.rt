@@ -9,7 +9,7 @@ ghost use Rattle.sd_base.specs.declared.shape.Shape.{Shape};
 ghost use Rattle.page_image.specs.Image.{IsTextOf, birth_image};
 ghost use Rattle.space_map.specs.Image.{IsMapText, birth_map};
 ghost use Rattle.private_log.specs.Content.{region_of, LogContent, HasNoFuture};
-ghost use Rattle.private_log.specs.Spread.{IsStill};
+ghost use Rattle.private_log.specs.Spread.{IsSpread, IsStill};
 ghost use Rattle.private_log.specs.Reading.{contents};
 ghost use Rattle.store_format.specs.Device.{IsAllCovered};
 ghost use Rattle.store_format.specs.Formatted.{IsBornDisk, IsFormattedVault};
@@ -20,6 +20,8 @@ pub fn law_of_formatted_disks()
     ensures log { (s : Shape) (n : ℕ) (b : ℕ → BlockState) → IsShape s → 1 ≤ n → n ≤ s.nodes → ((k : ℕ) → IsLawful b k) → IsBornDisk s b → LogContent (region_of s n) (contents b) 0 [] }
     ensures no_future { (s : Shape) (n : ℕ) (b : ℕ → BlockState) → 1 ≤ n → n ≤ s.nodes → ((k : ℕ) → IsLawful b k) → IsBornDisk s b → HasNoFuture (region_of s n) (contents b) 0 [] }
     ensures still { (s : Shape) (n : ℕ) (b : ℕ → BlockState) → IsAllCovered b → IsStill (region_of s n) b }
+    // So it is whatever a stop leaves.
+    ensures spread { (s : Shape) (n : ℕ) (b : ℕ → BlockState) → 1 ≤ n → n ≤ s.nodes → ((k : ℕ) → IsLawful b k) → IsBornDisk s b → IsSpread (region_of s n) 0 0 b [] }
     ensures map { (s : Shape) (x : ℕ) (b : ℕ → BlockState) → IsShape s → x < s.maps → ((k : ℕ) → IsLawful b k) → IsBornDisk s b → (text : List ℕ) × (contents b (first_page s + x) ≡ Some text) × IsMapText (birth_map (record { 0 = x }) s.birth) text }
     ensures page { (s : Shape) (x : ℕ) (b : ℕ → BlockState) → IsShape s → s.maps ≤ x → x < page_count s → ((k : ℕ) → IsLawful b k) → IsBornDisk s b → (text : List ℕ) × (contents b (first_page s + x) ≡ Some text) × IsTextOf (birth_image (record { 0 = x }) s.birth) text }
 {}

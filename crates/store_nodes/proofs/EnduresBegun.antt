@@ -6,7 +6,6 @@ use Rattle.std.proofs.lemmas.Bool.{cases_eq}
 use Rattle.sd_base.specs.Disk.{BlockState}
 use Rattle.sd_base.specs.declared.names.Key.{Key}
 use Rattle.sd_base.specs.declared.names.TxnId.{TxnId}
-use Rattle.sd_base.specs.declared.shape.Shape.{Shape}
 use Rattle.log_record.specs.declared.record.LogRecord.{LogRecord}
 use Rattle.log_record.specs.declared.record.LogRecord.TheVariants.{Begin}
 use Rattle.private_log.specs.Log.{space}
@@ -21,14 +20,12 @@ use Rattle.recovery_theory.specs.Rules.{is_record_of}
 use Rattle.recovery_theory.specs.Steps as step
 use Rattle.recovery_theory.proofs.Cuts.{with_record-same}
 use Rattle.recovery_theory.proofs.RuledLogs.{told_of}
-use Rattle.recovery_theory.proofs.RoomTaken.{room_for_one_more}
 use Rattle.record_machine.specs.Cuts.{Survives, SurvivesAs}
 use Rattle.record_machine.specs.Machine.{Deed, Machine, deeds_of, is_begin_in}
 use Rattle.record_machine.specs.Machine as machine
 use Rattle.record_machine.specs.Meaning.{Plain, logged}
 use Rattle.record_machine.specs.Parts.{Begin as Began, one}
 use Rattle.record_machine.proofs.DeedStops.{begun_survives}
-use Rattle.record_machine.proofs.OwedDeeds.{owed_by_deeds}
 use Rattle.record_machine.proofs.SeatDeeds.{busy_begun}
 use Rattle.store_nodes.specs.declared.node.Node.TheVariants.{Up}
 use Rattle.store_nodes.specs.declared.store.Store.{Store}
@@ -37,7 +34,7 @@ use Rattle.store_nodes.specs.Endures.{AreBusy, EnduresAs, with_held}
 use Rattle.store_nodes.specs.Shows.{ShowsNode, deeds_in, numbers_of}
 use Rattle.store_nodes.specs.Tied.{AreLatest, TiesNode, TiesUp}
 use Rattle.store_nodes.proofs.LastRecords.{last_other, latest_set}
-use Rattle.store_nodes.proofs.Owing.{owed_shown}
+use Rattle.store_nodes.proofs.RoomShown.{room_for_record}
 use Rattle.store_nodes.proofs.ShownLogged.{length_shown}
 use Rattle.store_nodes.proofs.Works.{work_at}
 
@@ -86,17 +83,7 @@ module _ (me : Store) (b : ℕ → BlockState) (p : Plain) (m : Machine) (t : Tx
       let never : true ≡ false = sym busy ∙ free in cc
 
   fits : HasRoom h.devices n (h.live n ++ Begin ∷ [])
-  fits =
-      let r = shown.survives.survives.recoverable in
-      let owes = owed_by_deeds shown.dirty h p m1 n r in
-      let owing = owed_shown n me.shape me.shared.pool c seats b p m1 work.eight mine.1 in
-      let long = length_shown n me.shape me.shared.pool c seats b p m1 mine.1 in
-      let live : length (h.live n) ≡ length (p.live n) = ap length (r.live n) in
-      let first = r.first n in
-      let start = mine.1.start in
-      let ring : h.devices.shape.ring ≡ me.shape.ring = ap (λ (s : Shape). s.ring) (r.shape ∙ shown.nodes.shape) in
-      let log_ring : c.log.shape.ring ≡ me.shape.ring = ap (λ (s : Shape). s.ring) work.store.shape in
-      room_for_one_more h.devices n (h.live n) Begin (record { room = omega (arith, owes, owing, long, live, room, ring, log_ring); last = omega (arith, owes, owing, long, live, room, first, start) })
+  fits = room_for_record n me.shape me.shared.pool me.shared.owners c seats b shown.dirty h p m1 work shown.nodes.shape mine.1 shown.survives.survives.recoverable Begin room
 
   abbrev h' : History
   h' = step.logged h n Begin (entry_now h) (image_now h) h.last

@@ -16,7 +16,10 @@ pub mod MayHalts
 pub mod RingEndures
 pub mod LoggedEndures
 pub mod LastRecords
+pub mod RoomShown
+pub mod ChangedEndures
 pub mod EnduresBegun
+pub mod EnduresChanged
 pub mod EnduresEnded
 pub mod EnduresStarted
 pub mod ShownBegin
@@ -35,5 +38,7 @@ pub mod LeftWrites
 pub mod Seated
 pub mod BackDeeds
 pub mod ShownBack
+pub mod RuledBacks
+pub mod BackEndures
 pub mod ShownReopening
 pub mod Holders

@@ -1,12 +1,11 @@
 -- A store of which a node is about to halt in a call of its own.
-use Rattle.std.specs.Prelude.{◌≡◌, ◌≢◌, ◌⊎◌, ◌<◌, ◌≤◌, ℕ, Bool, true, false, IsTrue, List, Option, Some, None, length, refl}
+use Rattle.std.specs.Prelude.{◌≡◌, ◌≢◌, ◌<◌, ◌≤◌, ℕ, Bool, true, false, List, Option, Some, length, refl}
 use Rattle.std.proofs.Common.{ap, inl, inr, subst, sym, ◌∙◌}
 use Rattle.std.proofs.lemmas.Bool.{cases_eq}
 use Rattle.sd_base.specs.Disk.{BlockState}
 use Rattle.sd_base.specs.Shape.{page_count}
 use Rattle.sd_base.specs.declared.device.NodeId.{NodeId}
 use Rattle.sd_base.specs.declared.names.PageNo.{PageNo}
-use Rattle.sd_base.specs.declared.shape.Shape.{Shape}
 use Rattle.private_log.specs.Content.{region_of}
 use Rattle.page_owner.specs.declared.owners.Own.{Own}
 use Rattle.page_owner.specs.declared.owners.Own.TheVariants.{Nobody, Out, Parked}
@@ -23,9 +22,8 @@ use Rattle.record_machine.specs.Meaning.{Plain}
 use Rattle.record_machine.proofs.Put.{at_or_off}
 use Rattle.store_nodes.specs.declared.node.Node.{Node}
 use Rattle.store_nodes.specs.declared.node.Node.TheVariants.{Up, Down}
-use Rattle.store_nodes.specs.declared.store.Shared.{Shared}
 use Rattle.store_nodes.specs.declared.store.Store.{Store}
-use Rattle.store_nodes.specs.Endures.{AreBusy, AreBusyBut, AreClean, AreGone, EnduresAs, MayHaltAs, with_held}
+use Rattle.store_nodes.specs.Endures.{AreBusy, AreBusyBut, AreClean, AreCleanBut, EnduresButAs, MayHaltAs, with_held}
 use Rattle.store_nodes.specs.Nodes.{IsHeldBy, IsPlace, IsStore, KeepsFramesBut, OnUp, OthersStay, is_up, node_at, with_node}
 use Rattle.store_nodes.specs.Shows.{IsHolderUp, IsSettled, ShowsNode, holder}
 use Rattle.store_nodes.specs.Tied.{TiesNode, TiesPage, TiesStill}
@@ -78,14 +76,18 @@ module _ (me : Store) (n : ℕ) (c : CacheState) (seats : SeatsState) (is : IsSt
   pub clean_halting : (dirty : ℕ → Bool) (m m' : Machine) → m'.reopening ≡ m.reopening → AreClean me.shape owners me.nodes dirty m → AreClean me.shape owners (with_node nodes' n Down) dirty m'
   clean_halting dirty m m' same was whole x within now = was (sym same ∙ whole) x within (settled_up x now)
 
-  -- also where a page that the node has is changed
-  pub clean_changed : (y : PageNo) (dirty : ℕ → Bool) (m m' : Machine) → is_cached y c ≡ true → m'.reopening ≡ m.reopening → AreClean me.shape owners me.nodes dirty m → AreClean me.shape owners (with_node nodes' n Down) (put y.0 true dirty) m'
-  clean_changed y dirty m m' cached same was whole x within now =
-      at_or_off (λ b. b ≡ false) y.0 true dirty x.0 (λ here. (let one : x ≡ y = ap (λ k. record { 0 = k }) here in let none = ap (λ z. is_cached z c) (sym one) ∙ not_out x now in let never : true ≡ false = sym cached ∙ none in absurd cc)) (λ far. was (sym same ∙ whole) x within (settled_up x now))
+  -- also where it had them but for a page that the node has,
+  pub clean_halting_but : (y : PageNo) (dirty : ℕ → Bool) (m m' : Machine) → is_cached y c ≡ true → m'.reopening ≡ m.reopening → AreCleanBut (Some y.0) me.shape owners me.nodes dirty m → AreClean me.shape owners (with_node nodes' n Down) dirty m'
+  clean_halting_but y dirty m m' cached same was whole x within now = was (sym same ∙ whole) x within (settled_up x now) (λ here. (let one : x ≡ y = ap (λ k. record { 0 = k }) here in let never : true ≡ false = sym cached ∙ ap (λ z. is_cached z c) (sym one) ∙ not_out x now in cc))
+
+  -- and where such a page is changed
+  pub clean_changed : (y : PageNo) (dirty : ℕ → Bool) (m : Machine) → is_cached y c ≡ true → AreClean me.shape owners (with_node nodes' n Down) dirty m → AreClean me.shape owners (with_node nodes' n Down) (put y.0 true dirty) m
+  clean_changed y dirty m cached was whole x within now =
+      at_or_off (λ b. b ≡ false) y.0 true dirty x.0 (λ here. (let one : x ≡ y = ap (λ k. record { 0 = k }) here in let never : true ≡ false = sym cached ∙ ap (λ z. is_cached z c) (sym one) ∙ not_out x now in absurd cc)) (λ far. was whole x within now)
 
   -- ---- the whole
 
-  module _ (b b' : ℕ → BlockState) (p p' : Plain) (m m' : Machine) (e : EnduresAs me b p m) (pool : List (Option (List ℕ))) (dirty : ℕ → Bool) (h' : History) (cut : ℕ) where
+  module _ (b b' : ℕ → BlockState) (p p' : Plain) (m m' : Machine) {but : Option ℕ} (e : EnduresButAs but me b p m) (pool : List (Option (List ℕ))) (dirty : ℕ → Bool) (h' : History) (cut : ℕ) where
     pub may_halt_with : m'.mode n ≡ machine.Up → m'.shape ≡ m.shape → m'.locks ≡ m.locks → m'.reopening ≡ m.reopening → m'.gone ≡ m.gone → ((x : ℕ) → m'.hold x ≡ m.hold x) → h'.devices.disk ≡ e.history.devices.disk
         → ((k : ℕ) → IsPlace k → k ≤ me.shape.nodes → k ≢ n → LeavesRegion (region_of me.shape k) b b') → KeepsFramesBut n me.nodes me.shared.pool pool → ((k : ℕ) → IsPlace k → k ≢ n → LeavesNode me.shape k (node_at me.nodes k) p p' (with_held e.held m) (with_held e.held m')) → ((k : ℕ) → k ≢ n → LeavesLog k e.history h')
         → AreBusyBut n m' → AreClean me.shape owners (with_node nodes' n Down) dirty m' → IsPlaceToCut h' n cut → TiesStill me.shape n b' (stopped h' n cut) → ((x : PageNo) → x.0 < page_count me.shape → TiesPage me.shape b' h' x) → SurvivesAs e.held dirty h' p' m'

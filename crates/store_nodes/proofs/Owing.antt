@@ -19,7 +19,7 @@ use Rattle.record_machine.specs.Meaning.{Plain}
 use Rattle.store_nodes.specs.declared.node.Node.{Node}
 use Rattle.store_nodes.specs.declared.node.Node.TheVariants.{Idle, Up, Down}
 use Rattle.store_nodes.specs.Nodes.{IsNode, IsPlace, IsStoreOf, node_at}
-use Rattle.store_nodes.specs.Shows.{ShowsNode, ShowsStoreOf, ShowsUp, deeds_in, numbers_of}
+use Rattle.store_nodes.specs.Shows.{ShowsNode, ShowsNodes, ShowsStoreOf, ShowsUp, deeds_in, numbers_of}
 
 -- ---- the deeds of the seats below one
 
@@ -95,8 +95,8 @@ module _ (n : ℕ) (s : Shape) (pool : List (Option (List ℕ))) (c : CacheState
       omega (arith, sum, none, all, long)
 
 -- no node owes more records than its log may have
-pub owes_few : (s : Shape) (pool : List (Option (List ℕ))) (owners : List Own) (nodes : List Node) (b : ℕ → BlockState) (p : Plain) (m : Machine) → IsStoreOf s pool owners nodes → ShowsStoreOf s pool owners nodes b p m → (n : ℕ) → 1 ≤ n → n ≤ m.shape.nodes → machine.owed m n ≤ 6 * m.shape.ring
-owes_few s pool owners nodes b p m is was n first last =
+pub nodes_owe_few : (s : Shape) (pool : List (Option (List ℕ))) (owners : List Own) (nodes : List Node) (b : ℕ → BlockState) (p : Plain) (m : Machine) → IsStoreOf s pool owners nodes → ShowsNodes s pool owners nodes b p m → (n : ℕ) → 1 ≤ n → n ≤ m.shape.nodes → machine.owed m n ≤ 6 * m.shape.ring
+nodes_owe_few s pool owners nodes b p m is was n first last =
     let many = is.shared.shape.nodes in
     let count : m.shape.nodes ≡ s.nodes = ap (λ t. t.nodes) was.shape in
     let ring : m.shape.ring ≡ s.ring = ap (λ t. t.ring) was.shape in
@@ -112,3 +112,6 @@ owes_few s pool owners nodes b p m is was n first last =
         let ring : c.log.shape.ring ≡ s.ring = ap (λ t. t.ring) work.store.shape in
         omega (arith, owing, room, ring)
     by Down stopped shown = shown.1
+
+pub owes_few : (s : Shape) (pool : List (Option (List ℕ))) (owners : List Own) (nodes : List Node) (b : ℕ → BlockState) (p : Plain) (m : Machine) → IsStoreOf s pool owners nodes → ShowsStoreOf s pool owners nodes b p m → (n : ℕ) → 1 ≤ n → n ≤ m.shape.nodes → machine.owed m n ≤ 6 * m.shape.ring
+owes_few s pool owners nodes b p m is was = nodes_owe_few s pool owners nodes b p m is (record { means = was.means; shape = was.shape; node = was.node; hold = was.hold })

@@ -210,8 +210,8 @@ module _ (n : ℕ) (s : Shape) (pool new : List (Option (List ℕ))) (owners : L
   same_update = refl
 
   -- what is left of the slot is what the transaction saw before it
-  slot : (op : PageOp) → taking_back back.1.undo.update ≡ Some op → IsChangedAt (slot_of_key w.key) (seen (one (Back t) m) t w.key) (p.pages w.page) (applied op (p.pages x.0))
-  slot op taken =
+  pub slot_taken_back : (op : PageOp) → taking_back back.1.undo.update ≡ Some op → IsChangedAt (slot_of_key w.key) (seen (one (Back t) m) t w.key) (p.pages w.page) (applied op (p.pages x.0))
+  slot_taken_back op taken =
       let key : Key = record { 0 = w.key } in
       let lock : mode_of m.locks key t ≡ Some locks.Write = means.locked.written t key (written_it t.seat (m.pending t.node.0) e w (newest_is t.seat (m.pending t.node.0) e is) write) in
       let held : content (p.pages w.page) (slot_of_key w.key) ≡ w.value = seen_locked p m key w.page t locks.Write means.locked means.pages (back_home p m t e w is write means.logs) lock ∙ newest_seen m t e w is write in
@@ -224,7 +224,7 @@ module _ (n : ℕ) (s : Shape) (pool new : List (Option (List ℕ))) (owners : L
   means_taken_back op taken =
       subst (λ j. Means (logged j back.0 (with_page x.0 (applied op (p.pages x.0)) p)) (one (Back t) m)) node
       (subst (λ y. Means (logged t.node.0 back.0 (with_page y (applied op (p.pages x.0)) p)) (one (Back t) m)) (sym at)
-      (means_back p m t e w back.0 (applied op (p.pages x.0)) is write within.0 within.1 (slot op taken) means))
+      (means_back p m t e w back.0 (applied op (p.pages x.0)) is write within.0 within.1 (slot_taken_back op taken) means))
 
   -- the node after it
   pub up_taken_back : (op : PageOp) → ChangesPage (p.pages x.0).page c.log.tail c.pages d.pages pool new → HasPage new d.pages (p.pages x.0).page (applied op (p.pages x.0)) → SameLog c.log d.log

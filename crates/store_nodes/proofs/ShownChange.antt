@@ -1,7 +1,6 @@
 -- What a store shows after one record more in a node's log, which changes one of its pages.
 use Rattle.std.specs.Prelude.{◌≡◌, ◌≢◌, ◌*◌, ◌<◌, ◌++◌, ◌∷◌, [], ℕ, true, false, List, Option, Some, None, All, is_some, map, nat_lt, option_and_then, option_map, slice_index_or, if◌then◌else◌, refl}
-use Rattle.std.proofs.Common.{inl, inr, ap, subst, sym, ◌∙◌}
-use Rattle.std.proofs.lemmas.Bool.{cases_eq}
+use Rattle.std.proofs.Common.{ap, subst, sym, ◌∙◌}
 use Rattle.sd_base.specs.Disk.{BlockState}
 use Rattle.sd_base.specs.Shape.{page_count}
 use Rattle.sd_base.specs.declared.names.PageNo.{PageNo}
@@ -111,9 +110,9 @@ changed_others s nodes n rec p q m m' x one apart same k is far = record {
   lives = λ j d low. one.entries (slice_index_or (pages_of (node_at nodes k)) j d).ticket.page;
 }
 
--- a page that was on the disk is there still, but for the one that has changed, which isn't settled
-module _ (s : Shape) (pool : List (Option (List ℕ))) (owners : List Own) (nodes : List Node) (n : ℕ) (c d : CacheState) (seats after : SeatsState) (b b' : ℕ → BlockState) (p q : Plain) (m : Machine) (x : PageNo) (page : CachedPage) (number : ℕ) (rec : LogRecord)
-    (is : IsStoreOf s pool owners nodes) (place : IsPlace n) (up : node_at nodes n ≡ Up c seats) (store : IsOfStore s c) (tie : IsTiedToLog c) (one : OnlyPage s p q x) (there : page_at x c.pages ≡ Some page) (pages : d.pages ≡ with_page x (changed_by number) c.pages) where
+-- the page that has changed isn't settled, and another one is so only if it was
+module _ (s : Shape) (pool : List (Option (List ℕ))) (owners : List Own) (nodes : List Node) (n : ℕ) (c d : CacheState) (seats after : SeatsState) (x : PageNo) (page : CachedPage) (number : ℕ)
+    (is : IsStoreOf s pool owners nodes) (place : IsPlace n) (up : node_at nodes n ≡ Up c seats) (there : page_at x c.pages ≡ Some page) (pages : d.pages ≡ with_page x (changed_by number) c.pages) where
   unsettled : (y : PageNo) → y ≡ x → ¬ (IsSettled (with_node nodes n (Up d after)) owners y)
   unsettled y here settled =
       let clean : is_changed y d ≡ false = subst (λ o. OnUp o (λ e seats. is_changed y e ≡ false)) (at_same nodes n (Up d after) is.shared.eight place) (settled.clean n place) in
@@ -121,12 +120,18 @@ module _ (s : Shape) (pool : List (Option (List ℕ))) (owners : List Own) (node
       let never : true ≡ false = sym yes ∙ ap (λ ps. is_some (option_and_then first_change (page_at y ps))) (sym pages) ∙ clean in
       cc
 
+  pub settled_changed : (y : PageNo) → IsSettled (with_node nodes n (Up d after)) owners y → (y.0 ≢ x.0) × IsSettled nodes owners y
+  settled_changed y settled =
+      let apart : y ≢ x = λ same. unsettled y same settled in
+      let beside : page_at y d.pages ≡ page_at y c.pages = ap (page_at y) pages ∙ page_beside x y (changed_by number) c.pages (λ r. refl) apart in (
+        λ here. apart (ap (λ k. record { 0 = k }) here),
+        settled_before nodes owners n c d seats after is.shared.eight place up y (is.shared.holders y.0) (λ clean. ap (λ o. is_some (option_and_then first_change o)) (sym beside) ∙ clean) settled,
+      )
+
+-- a page that was on the disk is there still, but for the one that has changed
+module _ (s : Shape) (pool : List (Option (List ℕ))) (owners : List Own) (nodes : List Node) (n : ℕ) (c d : CacheState) (seats after : SeatsState) (b b' : ℕ → BlockState) (p q : Plain) (m : Machine) (x : PageNo) (page : CachedPage) (number : ℕ) (rec : LogRecord)
+    (is : IsStoreOf s pool owners nodes) (place : IsPlace n) (up : node_at nodes n ≡ Up c seats) (store : IsOfStore s c) (tie : IsTiedToLog c) (one : OnlyPage s p q x) (there : page_at x c.pages ≡ Some page) (pages : d.pages ≡ with_page x (changed_by number) c.pages) where
   pub changed_stored : NarrowsBeside (next_place c.log) b b' → ShowsStoreOf s pool owners nodes b p m → (y : PageNo) → y.0 < page_count s → IsSettled (with_node nodes n (Up d after)) owners y → IsOnDisk s b' (logged n rec q) y
-  changed_stored narrows was y low settled = elim (cases_eq y.0 x.0) [
-    | inl here ↦ absurd (unsettled y (ap (λ k. record { 0 = k }) here) settled)
-    | inr other ↦
-        let apart : y ≢ x = λ same. other (ap (λ (z : PageNo). z.0) same) in
-        let beside : page_at y d.pages ≡ page_at y c.pages = ap (page_at y) pages ∙ page_beside x y (changed_by number) c.pages (λ r. refl) apart in
-        disk_changed s p q x y b' one apart (stored_beside s p c y b b' store tie narrows
-        (was.stored y low (settled_before nodes owners n c d seats after is.shared.eight place up y (is.shared.holders y.0) (λ clean. ap (λ o. is_some (option_and_then first_change o)) (sym beside) ∙ clean) settled)))
-  ]
+  changed_stored narrows was y low settled =
+      let at = settled_changed s pool owners nodes n c d seats after x page number is place up there pages y settled in
+      disk_changed s p q x y b' one (λ same. at.0 (ap (λ (z : PageNo). z.0) same)) (stored_beside s p c y b b' store tie narrows (was.stored y low at.1))

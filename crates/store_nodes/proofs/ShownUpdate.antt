@@ -68,23 +68,36 @@ update_tells u v slot (Put value) w page place is = (page, place, refl, sym is)
 update_tells u v slot (Append bytes) w page place is = (page, place, (refl, refl), is)
 update_tells u v slot Delete w page place is = (page, place, refl, sym is)
 
--- what a store means, where the page of the key's group has its new value
-pub means_updated : (p : Plain) (m : Machine) (t : TxnId) (w : Write) (u : OpenTxn) (x : PageNo) (slot : ℕ) (what : Change) → home m w.key ≡ Some w.page → w.page ≡ x.0 → slot_of_key w.key ≡ slot → mode_of m.locks (record { 0 = w.key }) t ≡ Some locks.Write
-    → w.value ≡ value_after what (seen m t w.key) → (p.pages x.0).page ≡ x → (p.pages x.0).ident < 2 ^ 63 → ((n : ℕ) → 1 ≤ n → n ≤ m.shape.nodes → owed m n ≤ 6 * m.shape.ring) → slot < length (p.pages x.0).slots → FitsSlotOf (p.pages x.0) slot what → Means p m
-    → Means (logged t.node.0 (update_of u (p.pages x.0) slot what) (with_page x.0 (applied (op_of slot what) (p.pages x.0)) p)) (one (Changed t w) m)
-means_updated p m t w u x slot what here page place lock value number before owes low fits means =
-    let v : PageView = p.pages x.0 in
-    let rec : LogRecord = update_of u v slot what in
-    let new : PageView = applied (op_of slot what) v in
-    let sees : content v slot ≡ seen m t w.key =
-    subst (λ k. content v k ≡ seen m t w.key) place (subst (λ y. content (p.pages y) (slot_of_key w.key) ≡ seen m t w.key) page (seen_locked p m (record { 0 = w.key }) w.page t locks.Write means.locked means.pages here lock)) in
-    let is : w.value ≡ value_after what (content v slot) = value ∙ ap (value_after what) (sym sees) in
-    let tells : Tells rec w (seen m t w.key) = subst (Tells rec w) sees (update_tells u v slot what w (ap (λ (y : PageNo). y.0) number ∙ sym page) (sym place) is) in
-    let range = home_is_data p m w.key w.page means.pages here in
-    let ident : m.ident w.page < 2 ^ 63 = subst (λ n. n < 2 ^ 63) (means.pages.ident w.page range.0 range.1) (subst (λ y. (p.pages y).ident < 2 ^ 63) (sym page) before) in
-    let changed : IsChangedAt (slot_of_key w.key) w.value (p.pages w.page) new =
-    subst (λ y. IsChangedAt (slot_of_key w.key) w.value (p.pages y) new) (sym page) (subst (λ k. IsChangedAt k w.value v new) (sym place) (subst (λ o. IsChangedAt slot o v new) (sym is) (slot_changed v slot what low fits))) in
-    subst (λ y. Means (logged t.node.0 rec (with_page y new p)) (one (Changed t w) m)) page (means_changed p m t w rec new here lock tells changed ident owes means)
+-- What the change of a slot is to the machine, where a transaction that has locked the record of the key writes it.
+module _ (p : Plain) (m : Machine) (t : TxnId) (w : Write) (u : OpenTxn) (x : PageNo) (slot : ℕ) (what : Change) (here : home m w.key ≡ Some w.page) (page : w.page ≡ x.0) (place : slot_of_key w.key ≡ slot) (lock : mode_of m.locks (record { 0 = w.key }) t ≡ Some locks.Write)
+    (value : w.value ≡ value_after what (seen m t w.key)) (number : (p.pages x.0).page ≡ x) (before : (p.pages x.0).ident < 2 ^ 63) (low : slot < length (p.pages x.0).slots) (fits : FitsSlotOf (p.pages x.0) slot what) (means : Means p m) where
+  abbrev v : PageView
+  v = p.pages x.0
+
+  abbrev rec : LogRecord
+  rec = update_of u v slot what
+
+  abbrev new : PageView
+  new = applied (op_of slot what) v
+
+  sees : content v slot ≡ seen m t w.key
+  sees = subst (λ k. content v k ≡ seen m t w.key) place (subst (λ y. content (p.pages y) (slot_of_key w.key) ≡ seen m t w.key) page (seen_locked p m (record { 0 = w.key }) w.page t locks.Write means.locked means.pages here lock))
+
+  gives : w.value ≡ value_after what (content v slot)
+  gives = value ∙ ap (value_after what) (sym sees)
+
+  pub tells_write : Tells rec w (seen m t w.key)
+  tells_write = subst (Tells rec w) sees (update_tells u v slot what w (ap (λ (y : PageNo). y.0) number ∙ sym page) (sym place) gives)
+
+  pub ident_below : m.ident w.page < 2 ^ 63
+  ident_below = let range = home_is_data p m w.key w.page means.pages here in subst (λ n. n < 2 ^ 63) (means.pages.ident w.page range.0 range.1) (subst (λ y. (p.pages y).ident < 2 ^ 63) (sym page) before)
+
+  pub page_changed : IsChangedAt (slot_of_key w.key) w.value (p.pages w.page) new
+  page_changed = subst (λ y. IsChangedAt (slot_of_key w.key) w.value (p.pages y) new) (sym page) (subst (λ k. IsChangedAt k w.value v new) (sym place) (subst (λ o. IsChangedAt slot o v new) (sym gives) (slot_changed v slot what low fits)))
+
+  -- what a store means, where the page of the key's group has its new value
+  pub means_updated : ((n : ℕ) → 1 ≤ n → n ≤ m.shape.nodes → owed m n ≤ 6 * m.shape.ring) → Means (logged t.node.0 rec (with_page x.0 new p)) (one (Changed t w) m)
+  means_updated owes = subst (λ y. Means (logged t.node.0 rec (with_page y new p)) (one (Changed t w) m)) page (means_changed p m t w rec new here lock tells_write page_changed ident_below owes means)
 
 -- ---- the deeds of the seats
 

@@ -39,6 +39,11 @@ AreBusyBut n m = (key : Key) (t : TxnId) (how : Mode) → mode_of m.locks key t 
 abbrev pub AreClean : Shape → List Own → List Node → (ℕ → Bool) → Machine → Type 0
 AreClean s owners nodes dirty m = m.reopening ≡ false → (x : PageNo) → x.0 < page_count s → IsSettled nodes owners x → dirty x.0 ≡ false
 
+-- the same, but for this page
+abbrev pub AreCleanBut : Option ℕ → Shape → List Own → List Node → (ℕ → Bool) → Machine → Type 0
+AreCleanBut None s owners nodes dirty m = AreClean s owners nodes dirty m
+AreCleanBut (Some y) s owners nodes dirty m = m.reopening ≡ false → (x : PageNo) → x.0 < page_count s → IsSettled nodes owners x → x.0 ≢ y → dirty x.0 ≡ false
+
 -- a page whose block is lost is said to be gone
 abbrev pub AreGone : Shape → History → Machine → Type 0
 AreGone s h m = (x : ℕ) → x < page_count s → h.devices.disk x ≡ None → m.gone x ≡ true
@@ -47,8 +52,9 @@ AreGone s h m = (x : ℕ) → x < page_count s → h.devices.disk x ≡ None →
 
 -- A store and its disk mean a state of the machine, by its logs and pages as they are at present and by a history that has the
 -- logs and pages which a stop leaves, whatever they are. `dirty` are the pages that the disk may lack. Where the tables are lost,
--- the history has still the locks to write of nodes that are down.
-pub record EnduresAs (c : Store) (b : ℕ → BlockState) (p : Plain) (m : Machine) : Type 0 where
+-- the history has still the locks to write of nodes that are down. There may be one page that is settled and that the disk lacks: the
+-- page of a place that has just come into use, before it is changed.
+pub record EnduresButAs (but : Option ℕ) (c : Store) (b : ℕ → BlockState) (p : Plain) (m : Machine) : Type 0 where
   pub held : Held
   pub dirty : ℕ → Bool
   pub history : History
@@ -56,14 +62,22 @@ pub record EnduresAs (c : Store) (b : ℕ → BlockState) (p : Plain) (m : Machi
   pub locks : m.locks ≡ c.shared.locks
   pub reopening : m.reopening ≡ c.shared.reopening
   pub lockers : AreBusy m
-  pub clean : AreClean c.shape c.shared.owners c.nodes dirty m
+  pub clean : AreCleanBut but c.shape c.shared.owners c.nodes dirty m
   pub lost : AreGone c.shape history m
   pub tied : IsTied c.shape c.nodes b history
   pub survives : SurvivesAs held dirty history p m
 
+-- there is no such page
+abbrev pub EnduresAs : Store → (ℕ → BlockState) → Plain → Machine → Type 0
+EnduresAs c b p m = EnduresButAs None c b p m
+
 -- it means this state of the machine by some logs and pages
 abbrev pub Endures : Store → (ℕ → BlockState) → Machine → Type 0
 Endures c b m = (p : Plain) × EnduresAs c b p m
+
+-- and so it does, where this page has just come into use
+abbrev pub EnduresBut : ℕ → Store → (ℕ → BlockState) → Machine → Type 0
+EnduresBut x c b m = (p : Plain) × EnduresButAs (Some x) c b p m
 
 -- ---- a store of which a node is about to halt
 

@@ -1,6 +1,6 @@
 //! One logged change of a cached page: of a slot of a data page, or of a place of a map page.
 
-ghost use Rattle.std.specs.Prelude.{◌≡◌, ◌≤◌, ◌<◌, ◌+◌, ◌^◌, true, ℕ, None, Some, IsTrue, IsOk, IfErr, OnErr, OnOk};
+ghost use Rattle.std.specs.Prelude.{◌≡◌, ◌≤◌, ◌<◌, ◌+◌, ◌^◌, ◌∷◌, [], true, false, ℕ, None, Some, IsTrue, IsOk, IfErr, OnErr, OnOk};
 ghost use Rattle.sd_base.specs.Calls.{Narrows};
 ghost use Rattle.sd_base.specs.Shape.{page_count};
 ghost use Rattle.sd_base.specs.Places.{group_of, map_of_key, slot_of_key};
@@ -11,9 +11,11 @@ ghost use Rattle.txn_core.specs.Seats.{is_busy, owed};
 ghost use Rattle.txn_core.specs.Updates.{FitsSlotOf, HasPage};
 ghost use Rattle.record_locks.specs.declared.mode.Mode.TheVariants as locks;
 ghost use Rattle.record_locks.specs.Held.{mode_of};
+ghost use Rattle.record_machine.specs.Led.{Led};
 ghost use Rattle.record_machine.specs.Machine.{Machine, Write, free_place, home, seen};
 ghost use Rattle.record_machine.specs.Parts.{Change as Changed, Use, one};
 ghost use Rattle.store_nodes.specs.declared.node.Node.TheVariants.{Down};
+ghost use Rattle.store_nodes.specs.Endures.{Endures, EnduresBut};
 ghost use Rattle.store_nodes.specs.Footprint.{FillsNoBlock, KeepsCache};
 ghost use Rattle.store_nodes.specs.Nodes.{IsPlace, OnUp, is_up, node_at};
 ghost use Rattle.store_nodes.specs.Pages.{HasMap, UsesPlace, value_after};
@@ -59,6 +61,8 @@ impl Store {
         ensures down { OnErr result (node_at self.new.nodes t.node.0 ≡ Down) }
         ensures shows { OnOk result (IsTrue D.told → (m : Machine) (w : Write) → home m w.key ≡ Some w.page → w.page ≡ x.0 → slot_of_key w.key ≡ slot → mode_of m.locks (record { 0 = w.key }) t ≡ Some locks.Write → w.value ≡ value_after what.now (seen m t w.key)
             → IsShown self.old (D.state disk.old).block m → IsShown self.new (D.state disk.new).block (one (Changed t w) m)) }
+        ensures led { IsTrue D.told → (m : Machine) (w : Write) → home m w.key ≡ Some w.page → w.page ≡ x.0 → slot_of_key w.key ≡ slot → mode_of m.locks (record { 0 = w.key }) t ≡ Some locks.Write → w.value ≡ value_after what.now (seen m t w.key) → m.reopening ≡ false
+            → EnduresBut x.0 self.old (D.state disk.old).block m → Led t.node.0 result (Changed t w ∷ []) m (Endures self.new (D.state disk.new).block) }
         ensures pages { OnOk result (IsTrue D.told → KeepsCache t.node.0 self.old self.new (D.state disk.old).block (D.state disk.new).block) }
         ensures memory { FillsNoBlock self.old t.node.0 1 → (IsOk result) × (disk.new ≡ disk.old) × (vault.new ≡ vault.old) }
     {

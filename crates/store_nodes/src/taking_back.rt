@@ -1,14 +1,16 @@
 //! What a transaction wrote last is taken back.
 
-ghost use Rattle.std.specs.Prelude.{◌≡◌, ◌≤◌, true, false, Some, IsTrue, IfErr, OnOk};
+ghost use Rattle.std.specs.Prelude.{◌≡◌, ◌≤◌, ◌∷◌, [], true, false, Some, IsTrue, IfErr, OnOk};
 ghost use Rattle.sd_base.specs.Calls.{Narrows};
 ghost use Rattle.private_log.specs.Content.{region_of};
 ghost use Rattle.node_cache.specs.Cache.{is_cached};
 ghost use Rattle.txn_core.specs.Seats.{is_busy};
+ghost use Rattle.record_machine.specs.Led.{Led};
 ghost use Rattle.record_machine.specs.Machine.{Deed, Machine, Write, newest_of};
 ghost use Rattle.record_machine.specs.Parts.{Back, one};
 ghost use Rattle.store_nodes.specs.declared.node.Node.TheVariants.{Down};
 ghost use Rattle.store_nodes.specs.Causes.{IsLogReply};
+ghost use Rattle.store_nodes.specs.Endures.{Endures};
 ghost use Rattle.store_nodes.specs.Nodes.{IsPlace, OnUp, is_up, node_at};
 ghost use Rattle.store_nodes.specs.Pages.{LeavesLess};
 ghost use Rattle.store_nodes.specs.Ports.{HasCause, IsQuiet, IsReady, IsStopReply, Works, Writes, says_stop};
@@ -51,6 +53,8 @@ impl Store {
             → IsShown self.old (D.state disk.old).block m → IsShown self.new (D.state disk.new).block (one (Back t) m)) }
         ensures stopped { IfErr result (λ why. IsTrue D.told → (m : Machine) (d : Deed) (w : Write) → newest_of m t ≡ Some d → d.write ≡ Some w → OnUp (node_at self.old.nodes t.node.0) (λ c seats. IsTrue (is_cached (record { 0 = w.page }) c))
             → IsShown self.old (D.state disk.old).block m → IsStopReply t.node.0 why) }
+        ensures led { IsTrue D.told → (m : Machine) (d : Deed) (w : Write) → newest_of m t ≡ Some d → d.write ≡ Some w → OnUp (node_at self.old.nodes t.node.0) (λ c seats. IsTrue (is_cached (record { 0 = w.page }) c)) → m.reopening ≡ false
+            → Endures self.old (D.state disk.old).block m → Led t.node.0 result (Back t ∷ []) m (Endures self.new (D.state disk.new).block) }
     {
         let fault = match &mut self.nodes[place(t.node)] {
             Node::Up(cache, seats) => {

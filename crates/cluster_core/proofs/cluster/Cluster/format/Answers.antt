@@ -1,5 +1,7 @@
 use Rattle.std.proofs.Common.{arith, inl, inr, ℕ}
+use Rattle.record_machine.specs.Meaning.{born}
 use Rattle.cluster_core.proofs.Opened.{after_failure, idle_then, narrows_as, opened_is, opened_served, opened_shows, shows_opened}
+use Rattle.cluster_core.proofs.OpenedEndures.{endures_opened}
 use Rattle.cluster_core.proofs.cluster.Cluster.format.Goals as goal
 
 pub returns-in_err-write_store-clause-super_behind_disk : goal.returns-in_err-write_store-clause-super_behind_disk
@@ -51,3 +53,16 @@ returns-clause-shows g c = λ told.
     opened_shows s c.in_ok-shared.shared c.idle_nodes.result b made.pool made.owners made.locks made.reopening c.idle_nodes.ensures
     (shows_opened s b c.requires.shape disk (λ n place last.
     (log.still s n b (c.write_store.ensures.disk_blocks told).quiet, log.log s n b c.requires.shape place.0 last lawful disk, log.no_future s n b place.0 last lawful disk)))
+
+pub returns-clause-endures : goal.returns-clause-endures
+returns-clause-endures g c = λ told.
+    let s = c.args.s in
+    let made = c.in_ok-shared.ensures in
+    let b = (g.D.Disk.state c.write_store.new.disk).block in
+    let lawful = λ (k : ℕ). g.met.D.Disk.lawful c.write_store.new.disk k told in
+    let disk = (c.in_ok-write_store.ensures.disk_done told).born in
+    let log = c.law_of_formatted_disks.ensures in
+    let quiet = (c.write_store.ensures.disk_blocks told).quiet in
+    let shown = opened_shows s c.in_ok-shared.shared c.idle_nodes.result b made.pool made.owners made.locks made.reopening c.idle_nodes.ensures
+    (shows_opened s b c.requires.shape disk (λ n place last. (log.still s n b quiet, log.log s n b c.requires.shape place.0 last lawful disk, log.no_future s n b place.0 last lawful disk))) in
+    (born s, endures_opened s c.requires.shape b disk (λ n place last. (log.still s n b quiet, log.spread s n b place.0 last lawful disk)) c.in_ok-shared.shared c.idle_nodes.result c.idle_nodes.ensures shown)

@@ -1,36 +1,54 @@
-use Rattle.std.specs.Prelude.{◌≡◌, ◌-◌, ◌≤◌, true, false, IsTrue, Option, Some, None, IfSome, is_some, length, refl, slice_index_or, slice_set}
+use Rattle.std.specs.Prelude.{◌≡◌, ◌-◌, ◌≤◌, ◌++◌, ◌∷◌, [], true, false, IsTrue, All, List, Option, Some, None, IfSome, is_some, length, map, refl, slice_index_or, slice_set}
 use Rattle.std.proofs.Common.{arith, ap, subst, sym, ◌∙◌, length-set}
 use Rattle.std.proofs.lemmas.List.{get_or-set_same}
+use Rattle.std.proofs.lemmas.List.Elements.{All-push}
 use Rattle.sd_base.specs.Faults.{IsStopOf}
 use Rattle.sd_base.specs.Shape.{first_page}
 use Rattle.sd_base.specs.declared.names.PageNo.{PageNo}
 use Rattle.page_image.specs.Change.{applied}
 use Rattle.compensation.specs.Inverse.{Undoes}
+use Rattle.frame_pool.specs.Frames.{frame_at}
+use Rattle.log_record.specs.declared.record.LogRecord.{LogRecord}
+use Rattle.log_record.specs.Legal.{IsLegal}
+use Rattle.log_record.specs.Text.{record_text}
 use Rattle.private_log.specs.Content.{region_of}
+use Rattle.private_log.specs.Log.{region}
+use Rattle.private_log.specs.Spread.{IsCutLog}
 use Rattle.node_cache.specs.Cache as cache
 use Rattle.node_cache.specs.Cache.{AreShown, CachedPage, changed_by, is_cached, page_at}
 use Rattle.txn_core.specs.Seats.{OpenTxn, is_busy, txn_in}
 use Rattle.txn_core.specs.Updates.{HasPage}
 use Rattle.txn_core.proofs.SeatLaws.{seats_state, txn_of}
 use Rattle.txn_core.proofs.TakeBackLaws.{change_back}
+use Rattle.recovery_theory.specs.Steps.{changed_page}
+use Rattle.recovery_theory.proofs.Cuts.{with_record-other, with_record-same}
+use Rattle.record_machine.specs.Led.{LedErr}
+use Rattle.record_machine.specs.Machine.{put}
 use Rattle.record_machine.specs.Meaning.{logged, with_page}
-use Rattle.record_machine.specs.Parts.{Back, one}
+use Rattle.record_machine.specs.Parts.{Back, one, taken_back}
 use Rattle.record_machine.proofs.BackSteps.{back_is}
 use Rattle.record_machine.proofs.Put.{put_other}
 use Rattle.store_nodes.specs.declared.node.Node.TheVariants.{Down, Up}
 use Rattle.store_nodes.specs.Causes.{IsLogReply}
-use Rattle.store_nodes.specs.Nodes.{IsAtWork, IsStoreButOf, OnUp, node_at}
+use Rattle.store_nodes.specs.Endures.{Endures, EnduresAs, MayHalt, MayHaltAs, with_held}
+use Rattle.store_nodes.specs.Nodes.{IsAtWork, IsStoreButOf, OnUp, node_at, pages_of, with_node}
 use Rattle.store_nodes.specs.Pages.{LeavesLess}
 use Rattle.store_nodes.specs.Ports.{IsStopReply, says_stop}
-use Rattle.store_nodes.specs.Shows.{ShowsNode, ShowsStoreOf}
+use Rattle.store_nodes.specs.Shows.{ShowsNode, ShowsStoreOf, ShowsUp}
+use Rattle.store_nodes.specs.Tied.{TiesNode}
+use Rattle.store_nodes.proofs.BackEndures.{latest_back, lockers_back, survives_back}
+use Rattle.store_nodes.proofs.Broken.{broke_here, led_fault, no_unlock, of_stop}
 use Rattle.store_nodes.proofs.CachedImages.{only_data}
 use Rattle.store_nodes.proofs.Changed.{frames_changed, page_alone, store_changed}
-use Rattle.store_nodes.proofs.Eight.{at_same}
+use Rattle.store_nodes.proofs.ChangedEndures.{changed_endures, changed_halts, clean_where_changed}
+use Rattle.store_nodes.proofs.Eight.{at_same, others_stay}
 use Rattle.store_nodes.proofs.LogReplies.{log_says, stop_says, unless_live, unless_stopped, where_live, where_stopped}
 use Rattle.store_nodes.proofs.Logs as logs
-use Rattle.store_nodes.proofs.ShownBack.{back, back_cached, means_taken_back, up_taken_back}
+use Rattle.store_nodes.proofs.MayHalts.{clean_changed, clean_halting}
+use Rattle.store_nodes.proofs.ShownBack.{back, back_cached, means_taken_back, slot_taken_back, up_taken_back}
 use Rattle.store_nodes.proofs.ShownChange.{changed_others, changed_stored}
 use Rattle.store_nodes.proofs.ShownWith.{shown_with}
+use Rattle.store_nodes.proofs.Ties.{stable_cut}
 use Rattle.store_nodes.proofs.store.Store.take_back_one.Given as given
 use Rattle.store_nodes.proofs.store.Store.take_back_one.Goals as goal
 
@@ -315,3 +333,132 @@ returns-in-Ok-clause-shows g c = λ told m e w newest write cached shown_by.
         reopening = ap (λ o. o.reopening) same ∙ shown_by.1.reopening;
       },
     )
+
+pub returns-in-Ok-clause-led : goal.returns-in-Ok-clause-led
+returns-in-Ok-clause-led g c = λ told m e w newest write cached open_still endured.
+    let me = c.args.self.now in
+    let s = me.shape in
+    let pool = me.shared.pool in
+    let owners = me.shared.owners in
+    let t = c.args.t in
+    let n = t.node.0 in
+    let i = c.place.result in
+    let at = c.place.ensures.is in
+    let is = c.requires.ready.is in
+    let place = c.requires.node in
+    let up = up_of g c in
+    let k = c.in-Up.cache in
+    let seats = c.in-Up.seats in
+    let done = c.take_back_one-done in
+    let d = done.new.c in
+    let after = done.new.self in
+    let new = done.new.pool in
+    let a = (g.D.Disk.state c.args.disk.now).block in
+    let b = (g.D.Disk.state done.new.disk).block in
+    let x : PageNo = record { 0 = w.page } in
+    let p = endured.0 in
+    let was = endured.1 in
+    let whole = sym was.reopening ∙ open_still in
+    let m1 = with_held was.held m in
+    let work = work_of g c in
+    let low = logs.low me n i k d seats after is place at up in
+    let mine = subst (λ o. ShowsNode s pool n o a p m1) up (was.nodes.node n place low) in
+    let hit : is_cached x k ≡ true = subst (λ o. OnUp o (λ f seats. IsTrue (is_cached x f))) up cached in
+    let has = back_cached n s pool k seats a p m1 t e w was.nodes.shape newest write was.nodes.means mine.1 work.shown hit in
+    let txn = the_txn g c in
+    let it = back n s pool new owners k d seats after a b p m1 t e w txn.0 x work was.nodes.shape refl c.requires.seat txn.1 newest write refl was.nodes.means mine.1 has in
+    let image = c.in-Ok.ensures.image told (p.live n) txn.0 (p.pages w.page) it.0 txn.1 mine.1.records mine.1.told it.1 in
+    let op = change_back txn.0 _ (p.pages w.page) it.1.undo.update it.0 it.1.is it.1.undo.of_page in
+    let now = subst (λ o. IfSome o (λ op. HasPage new d.pages (p.pages w.page).page (applied op (p.pages w.page)) × Undoes it.1.undo.update op)) op.1 image.1 in
+    let slot = slot_taken_back n s pool new owners k d seats after a b p m1 t e w txn.0 x work was.nodes.shape refl c.requires.seat txn.1 newest write refl was.nodes.means mine.1 has op.0 op.1 in
+    let next = applied op.0 (p.pages x.0) in
+    let q = with_page x.0 next p in
+    let only = only_data s p x next in
+    let pages : d.pages ≡ cache.with_page x (changed_by k.log.tail) k.pages = subst (λ y. d.pages ≡ cache.with_page y (changed_by k.log.tail) k.pages) has.number image.0.pages in
+    let keeps = image.0.frames has.page (subst (λ y. page_at y k.pages ≡ Some has.page) (sym has.number) has.there) in
+    let m' = taken_back t (Some w) m in
+    let h' = changed_page was.history n it.0 w.page op.0 in
+    subst (Endures (record { shape = s; shared = record { pool = new; owners = owners; locks = me.shared.locks; reopening = me.shared.reopening }; nodes = slice_set me.nodes i (Up d after) }) b) (sym (back_is m t e w newest write)) (
+      logged n it.0 q,
+      logs.there me n i k d seats after is place at up (λ os. EnduresAs (record { shape = s; shared = record { pool = new; owners = owners; locks = me.shared.locks; reopening = me.shared.reopening }; nodes = os }) b (logged n it.0 q) m')
+          (changed_endures me new n i k d seats after is place at up a b p (logged n it.0 q) m m' None was h' (put w.page true was.dirty) (done.ensures.outcomes told) (done.ensures.foreign told) (c.requires.quiet told) refl refl refl (λ y. refl) refl refl
+          (changed_others s me.nodes n it.0 p q m1 (taken_back t (Some w) m1) x only (page_alone me new n i k d seats after x k.log.tail has.page is place at up has.there) (λ j far. (refl, refl, put_other n _ m.pending j far)))
+          (λ j far. record { live = with_record-other n it.0 was.history.live j far; stable = refl; first = refl })
+          (frames_changed me new n i k d seats after x k.log.tail has.page is place at up has.there keeps)
+          None mine.0 done.ensures.same refl c.in-Ok.ensures.rises
+          (latest_back me a p m t k seats e w txn.0 it.0 op.0 is place low up was whole c.requires.seat txn.1 newest write hit has.number it.1 op.1 slot after (c.in-Ok.ensures.seats txn.0 txn.1).1)
+          (lockers_back me a p m t k seats e w txn.0 it.0 op.0 is place low up was whole c.requires.seat txn.1 newest write hit has.number it.1 op.1 slot) refl
+          (subst (ShowsUp s new n d after b (logged n it.0 q)) (back_is m1 t e w newest write)
+          (up_taken_back n s pool new owners k d seats after a b p m1 t e w txn.0 x work was.nodes.shape refl c.requires.seat txn.1 newest write refl was.nodes.means mine.1 has op.0 image.0 now.0 done.ensures.same (c.in-Ok.ensures.seats txn.0 txn.1).1
+          (c.in-Ok.ensures.records told (p.live n) txn.0 (p.pages w.page) it.0 txn.1 mine.1.records mine.1.told it.1) (c.in-Ok.ensures.told told (p.live n) txn.0 (p.pages w.page) it.0 txn.1 mine.1.records mine.1.told it.1)))
+          (clean_where_changed s pool owners me.nodes n k d seats after x has.page k.log.tail is place up has.there pages was.dirty m m' refl (λ still y within settled far. was.clean still y within settled))
+          (survives_back me a p m t k seats e w txn.0 it.0 op.0 is place low up was whole c.requires.seat txn.1 newest write hit has.number it.1 op.1 slot)),
+    )
+
+pub returns-clause-led : goal.returns-clause-led
+returns-clause-led g c = λ told m e w newest write cached open_still endured.
+    let me = c.args.self.now in
+    let s = me.shape in
+    let pool = me.shared.pool in
+    let owners = me.shared.owners in
+    let t = c.args.t in
+    let n = t.node.0 in
+    let i = c.place.result in
+    let at = c.place.ensures.is in
+    let is = c.requires.ready.is in
+    let place = c.requires.node in
+    let k = c.in-Up.cache in
+    let seats = c.in-Up.seats in
+    let up = logs.up_at me n i c.index-self-place.result k seats is place at c.in-Up.is in
+    let done = c.take_back_one-done in
+    let d = done.new.c in
+    let after = done.new.self in
+    let new = done.new.pool in
+    let a = (g.D.Disk.state c.args.disk.now).block in
+    let b = (g.D.Disk.state done.new.disk).block in
+    let b2 = (g.D.Disk.state c.give_up.new.disk).block in
+    let x : PageNo = record { 0 = w.page } in
+    let p = endured.0 in
+    let was = endured.1 in
+    let whole = sym was.reopening ∙ open_still in
+    let m1 = with_held was.held m in
+    let work = logs.work me n i k d seats after is place at up in
+    let low = logs.low me n i k d seats after is place at up in
+    let mine = subst (λ o. ShowsNode s pool n o a p m1) up (was.nodes.node n place low) in
+    let tied = subst (λ o. TiesNode s n o a was.history) up (was.tied.node n place low) in
+    let hit : is_cached x k ≡ true = subst (λ o. OnUp o (λ f seats. IsTrue (is_cached x f))) up cached in
+    let has = back_cached n s pool k seats a p m1 t e w was.nodes.shape newest write was.nodes.means mine.1 work.shown hit in
+    let txn = txn_of seats t.seat (subst (λ o. OnUp o (λ f those. IsTrue (is_busy those t.seat))) up c.requires.busy) in
+    let it = back n s pool new owners k d seats after a b p m1 t e w txn.0 x work was.nodes.shape refl c.requires.seat txn.1 newest write refl was.nodes.means mine.1 has in
+    let op = change_back txn.0 _ (p.pages w.page) it.1.undo.update it.0 it.1.is it.1.undo.of_page in
+    let slot = slot_taken_back n s pool new owners k d seats after a b p m1 t e w txn.0 x work was.nodes.shape refl c.requires.seat txn.1 newest write refl was.nodes.means mine.1 has op.0 op.1 in
+    let rec = it.0 in
+    let next = applied op.0 (p.pages x.0) in
+    let q = with_page x.0 next p in
+    let only = only_data s p x next in
+    let m' = taken_back t (Some w) m in
+    let h' = changed_page was.history n rec w.page op.0 in
+    let live : h'.live n ≡ p.live n ++ rec ∷ [] = with_record-same n rec was.history.live ∙ ap (λ (l : List LogRecord). l ++ rec ∷ []) (was.survives.survives.recoverable.live n) in
+    let stop = subst (λ j. IsStopOf j c.in-Err.fault) work.number (c.in-Err.ensures.there told (p.live n) txn.0 (p.pages w.page) txn.1 mine.1.records mine.1.told it.1.undo) in
+    let fell = of_stop n c.in-Err.fault _ stop c.in-Err.ensures.cut told (p.live n) txn.0 (p.pages w.page) rec txn.1 mine.1.records mine.1.told it.1 in
+    let cut = subst (λ (l : List LogRecord). IsCutLog (region k.log) k.log.start k.log.stable b (map record_text l)) (sym live) fell in
+    let legal = subst (All IsLegal) (sym live) (All-push IsLegal (p.live n) rec mine.1.records.legal (done.ensures.legal told (p.live n) txn.0 (p.pages w.page) rec txn.1 mine.1.records mine.1.told it.1)) in
+    let eight' = length-set me.nodes (n - 1) (Up d after) ∙ is.shared.eight in
+    let stay = others_stay me.nodes n (Up d after) is.shared.eight place in
+    let halts : MayHalt n (record { shape = s; shared = record { pool = new; owners = owners; locks = me.shared.locks; reopening = me.shared.reopening }; nodes = slice_set me.nodes i (Up d after) }) b2 m' = (
+      logged n rec q,
+      logs.there me n i k d seats after is place at up (λ os. MayHaltAs n (record { shape = s; shared = record { pool = new; owners = owners; locks = me.shared.locks; reopening = me.shared.reopening }; nodes = os }) b2 (logged n rec q) m')
+          (changed_halts me new n i k d seats after is place at up a b p (logged n rec q) m m' None was h' (put w.page true was.dirty) (done.ensures.outcomes told) (done.ensures.foreign told) (c.requires.quiet told) refl refl refl (λ y. refl) refl refl
+          (changed_others s me.nodes n rec p q m1 (taken_back t (Some w) m1) x only (page_alone me new n i k d seats after x k.log.tail has.page is place at up has.there) (λ j far. (refl, refl, put_other n _ m.pending j far)))
+          (λ j far. record { live = with_record-other n rec was.history.live j far; stable = refl; first = refl })
+          (λ j j_is far r page below. ap (λ frames. frame_at frames (slice_index_or (pages_of (node_at me.nodes j)) r page).frame) c.in-Err.ensures.frames_kept)
+          b2 mine.0 (c.give_up.ensures.outcomes told) (c.give_up.ensures.foreign told) legal cut (stable_cut n k b h' _ cut tied.stable) (of_stop n c.in-Err.fault _ stop c.in-Err.ensures.still told)
+          (lockers_back me a p m t k seats e w txn.0 rec op.0 is place low up was whole c.requires.seat txn.1 newest write hit has.number it.1 op.1 slot) refl
+          (clean_changed me n k seats is place up (with_node me.nodes n (Up d after)) eight' stay x was.dirty m' hit
+          (clean_halting me n k seats is place up (with_node me.nodes n (Up d after)) eight' stay was.dirty m m' refl was.clean))
+          (survives_back me a p m t k seats e w txn.0 rec op.0 is place low up was whole c.requires.seat txn.1 newest write hit has.number it.1 op.1 slot)),
+    ) in
+    let led = of_stop n c.in-Err.fault _ stop c.give_up.ensures.led told (one (Back t) m) (subst (MayHalt n (record { shape = s; shared = record { pool = new; owners = owners; locks = me.shared.locks; reopening = me.shared.reopening }; nodes = slice_set me.nodes i (Up d after) }) b2) (sym (back_is m t e w newest write)) halts) in
+    subst (λ why. LedErr n why (Back t ∷ []) m (Endures c.give_up.new.self b2)) (sym c.give_up.ensures.says)
+    (led_fault n (first_page s) c.in-Err.fault (Back t ∷ []) m (Endures c.give_up.new.self b2) stop
+    (broke_here n (Back t ∷ []) 1 m (Endures c.give_up.new.self b2) (no_unlock (Back t ∷ []) refl) led))
