@@ -10,8 +10,8 @@ use Rattle.std.proofs.lemmas.List.Quantifiers.{position-Some}
 use Rattle.std.proofs.lemmas.List.Sums.{fails_before_first, position_or_len_is}
 use Rattle.sd_base.specs.declared.names.GroupNo.{GroupNo}
 use Rattle.sd_base.specs.Shape.{page_count, pages_per_map}
-use Rattle.sd_base.specs.Places.{group_of, map_of_key, page_of_place}
-use Rattle.sd_base.proofs.PlaceLaws.{data_of_place, map_of_key-below, one_place_of_page}
+use Rattle.sd_base.specs.Places.{group_of, map_of_data, map_of_key, page_of_place}
+use Rattle.sd_base.proofs.PlaceLaws.{data_of_place, map_of_its_place, map_of_key-below, one_place_of_page}
 use Rattle.space_map.specs.declared.map_entry.MapEntry.{MapEntry}
 use Rattle.space_map.specs.declared.map_entry.MapEntry.TheVariants.{Free, Used}
 use Rattle.space_map.specs.Entry.{is_used_by}
@@ -59,6 +59,12 @@ pub home_is_data : (p : Plain) (m : Machine) (key x : ℕ) → ArePages p m → 
 home_is_data p m key x pages is =
     let a = place_of p m key x pages is in
     subst (λ y. (m.shape.maps ≤ y) × (y < page_count m.shape)) (sym a.page) (data_of_place m.shape (map_of_key m.shape key) a.place a.map a.within)
+
+-- whose map page is that of the key
+pub map_of_home : (p : Plain) (m : Machine) (key x : ℕ) → ArePages p m → home m key ≡ Some x → (map_of_data m.shape (record { 0 = x })).0 ≡ map_of_key m.shape key
+map_of_home p m key x pages is =
+    let a = place_of p m key x pages is in
+    ap (λ q. q.0) (map_of_its_place m.shape (record { 0 = x }) (record { 0 = map_of_key m.shape key }) a.place a.within a.page)
 
 -- a page that no group uses isn't any group's
 pub free_is_no_home : (p : Plain) (m : Machine) (key x map place ident : ℕ) → ArePages p m → home m key ≡ Some x → place < pages_per_map → slice_index_or (m.entries map) place (Free 0) ≡ Free ident → page_of_place m.shape map place ≢ x

@@ -1,7 +1,8 @@
 -- What a command of a store with several nodes is answered, and what it does, where any node may stop in it.
-use Rattle.std.specs.Prelude.{◌≡◌, ◌++◌, ◌∷◌, [], ℕ, true, All, List, Option, Some, None, is_some, map, option_map, take, if◌then◌else◌}
+use Rattle.std.specs.Prelude.{◌≡◌, ◌≤◌, ◌++◌, ◌∷◌, [], ⊤, ℕ, true, All, List, Option, Some, None, is_some, map, option_map, take, if◌then◌else◌}
 use Rattle.std.specs.List.{find, range_with_len}
 use Rattle.sd_base.specs.declared.device.NodeId.{NodeId}
+use Rattle.sd_base.specs.Places.{map_of_data}
 use Rattle.record_locks.specs.declared.mode.Mode.TheVariants as locks
 use Rattle.script_text.specs.declared.command.Command.{Command}
 use Rattle.script_text.specs.declared.command.Command.TheVariants as asks
@@ -10,7 +11,7 @@ use Rattle.script_text.specs.declared.reply.Reply.TheVariants as says
 use Rattle.record_machine.specs.Commands.{MayAnswer, any_lock, busy, first_of, needs_pages, no_deletion, no_lock, no_node, no_page, no_room, no_txn, not_idle, not_up, parts, takes, too_long, where_so}
 use Rattle.record_machine.specs.Led.{Broke}
 use Rattle.record_machine.specs.Machine.{Machine, awaits_recovery, is_down, seen}
-use Rattle.record_machine.specs.Parts.{Part, Sure, Take, dos}
+use Rattle.record_machine.specs.Parts.{Part, Sure, Take, dos, one}
 use Rattle.record_machine.specs.Rows.{AreAllRows, AreRows, IsInUse, IsNextRow, Row, row_reply}
 
 -- ---- refusals
@@ -161,10 +162,21 @@ StepOrStop m c r S = by (refused_for m c)
 abbrev pub take_all : ℕ → List ℕ → List Part
 take_all n pages = map (λ x. Take x n) pages
 
--- Node n has taken pages that a dump may take, none of them from a node that is down.
+-- where the page is a data page, the node holds its map page
+abbrev pub HoldsItsMap : Machine → ℕ → ℕ → Type 0
+HoldsItsMap m n x = m.shape.maps ≤ x → m.hold (map_of_data m.shape (record { 0 = x })).0 ≡ Some n
+
+-- a node that takes a data page by one of these parts holds the map page at that point: it has taken it before, or had it
+abbrev pub AreMapped : Machine → List Part → Type 0
+AreMapped m [] = ⊤
+AreMapped m (Take x n ∷ ps) = HoldsItsMap m n x × AreMapped (one (Take x n) m) ps
+AreMapped m (part ∷ ps) = AreMapped (one part m) ps
+
+-- Node n has taken pages that a dump may take, each data page behind its map page, and none of them from a node that is down.
 pub record TakesPages (m : Machine) (n : NodeId) (S : Machine → Type 0) : Type 0 where
   pub pages : List ℕ
   pub in_use : All (IsInUse m) pages
+  pub mapped : AreMapped m (take_all n.0 pages)
   pub free : held m (take_all n.0 pages) ≡ None
   pub after : S (dos (take_all n.0 pages) m)
 
@@ -172,6 +184,7 @@ pub record TakesPages (m : Machine) (n : NodeId) (S : Machine → Type 0) : Type
 pub record StopsTaking (m : Machine) (n : NodeId) (h : ℕ) (S : Machine → Type 0) : Type 0 where
   pub pages : List ℕ
   pub in_use : All (IsInUse m) pages
+  pub mapped : AreMapped m (take_all n.0 pages)
   pub free : held m (take_all n.0 pages) ≡ None
   pub after : Broke n.0 h (take_all n.0 pages) m S
 

@@ -67,10 +67,10 @@ module _ (S T : Machine → Type 0) (f : (k : Machine) → S k → T k) where
       by (Some why) is = let now = rw is at step in rw is (now.0, StaysAs-map m c why now.1)
 
   TakesPages-map : (m : Machine) (n : NodeId) → TakesPages m n S → TakesPages m n T
-  TakesPages-map m n t = record { pages = t.pages; in_use = t.in_use; free = t.free; after = f (dos (take_all n.0 t.pages) m) t.after }
+  TakesPages-map m n t = record { pages = t.pages; in_use = t.in_use; mapped = t.mapped; free = t.free; after = f (dos (take_all n.0 t.pages) m) t.after }
 
   StopsTaking-map : (m : Machine) (n : NodeId) (h : ℕ) → StopsTaking m n h S → StopsTaking m n h T
-  StopsTaking-map m n h s = record { pages = s.pages; in_use = s.in_use; free = s.free; after = Broke-map n.0 h (take_all n.0 s.pages) m s.after }
+  StopsTaking-map m n h s = record { pages = s.pages; in_use = s.in_use; mapped = s.mapped; free = s.free; after = Broke-map n.0 h (take_all n.0 s.pages) m s.after }
 
   DumpEnds-map : (m : Machine) (n : NodeId) (said : List Reply) → DumpEnds m n said S → DumpEnds m n said T
   DumpEnds-map m n said (all_rows rows takes) = all_rows rows (TakesPages-map m n takes)
@@ -145,10 +145,10 @@ module _ (S : Machine → Type 0) where
       by (Some why) is = let now = rw is at step in let end = StaysAs-end m c why now.1 in (end.0, end.1, rw is (now.0, end.2))
 
   TakesPages-end : (m : Machine) (n : NodeId) → TakesPages m n S → Ends (TakesPages m n) S
-  TakesPages-end m n t = (_, t.after, record { pages = t.pages; in_use = t.in_use; free = t.free; after = refl })
+  TakesPages-end m n t = (_, t.after, record { pages = t.pages; in_use = t.in_use; mapped = t.mapped; free = t.free; after = refl })
 
   StopsTaking-end : (m : Machine) (n : NodeId) (h : ℕ) → StopsTaking m n h S → Ends (StopsTaking m n h) S
-  StopsTaking-end m n h s = let end = Broke-end n.0 h (take_all n.0 s.pages) m s.after in (end.0, end.1, record { pages = s.pages; in_use = s.in_use; free = s.free; after = end.2 })
+  StopsTaking-end m n h s = let end = Broke-end n.0 h (take_all n.0 s.pages) m s.after in (end.0, end.1, record { pages = s.pages; in_use = s.in_use; mapped = s.mapped; free = s.free; after = end.2 })
 
   DumpEnds-end : (m : Machine) (n : NodeId) (said : List Reply) → DumpEnds m n said S → Ends (DumpEnds m n said) S
   DumpEnds-end m n said (all_rows rows takes) = let end = TakesPages-end m n takes in (end.0, end.1, all_rows rows end.2)

@@ -1,8 +1,8 @@
 -- A node that is up takes pages, none of them from a node that is down: what the machine has then.
-use Rattle.std.specs.Prelude.{◌≡◌, ◌++◌, ◌∷◌, [], ℕ, Bool, true, false, All, List, Option, Some, None, take, refl}
+use Rattle.std.specs.Prelude.{◌≡◌, ◌++◌, ◌∷◌, [], ℕ, Bool, true, false, All, List, Option, Some, None, drop, take, refl}
 use Rattle.std.proofs.Common.{ap, inl, inr, subst, sym, ◌∙◌}
 use Rattle.std.proofs.lemmas.Bool.{cases_eq}
-use Rattle.std.proofs.lemmas.List.{take-map}
+use Rattle.std.proofs.lemmas.List.{take-append-drop, take-map}
 use Rattle.std.proofs.lemmas.List.Elements.{All-append, All-head, All-nil, All-tail, All-take, All-weaker}
 use Rattle.sd_base.specs.declared.device.NodeId.{NodeId}
 use Rattle.script_text.specs.declared.reply.Reply.{Reply}
@@ -12,7 +12,7 @@ use Rattle.record_machine.specs.Machine.{LooseChange, Machine, NodeMode, is_down
 use Rattle.record_machine.specs.Machine as mode
 use Rattle.record_machine.specs.Parts.{Take, dos, loose_after_take, one}
 use Rattle.record_machine.specs.Rows.{IsInUse}
-use Rattle.record_machine.specs.Steps.{IsHeldPage, TakesPages, held, held_page, take_all}
+use Rattle.record_machine.specs.Steps.{AreMapped, IsHeldPage, TakesPages, held, held_page, take_all}
 use Rattle.record_machine.proofs.Put.{put_same}
 use Rattle.store_commands.specs.Taking.{HasSome}
 use Rattle.store_commands.proofs.Taken.{held_behind, held_next}
@@ -33,6 +33,16 @@ behind_taken Q n pages m on was = let those = only_taken n pages m in subst Q (s
 two_takes : (n : ℕ) (a b : List ℕ) (m : Machine) → dos (take_all n (a ++ b)) m ≡ dos (take_all n b) (dos (take_all n a) m)
 two_takes n [] b m = refl
 two_takes n (x ∷ a) b m = two_takes n a b (one (Take x n) m)
+
+-- ---- data pages behind their map pages
+
+mapped_both : (n : ℕ) (a b : List ℕ) (m : Machine) → AreMapped m (take_all n a) → AreMapped (dos (take_all n a) m) (take_all n b) → AreMapped m (take_all n (a ++ b))
+mapped_both n [] b m first next = next
+mapped_both n (x ∷ a) b m first next = (first.0, mapped_both n a b (one (Take x n) m) first.1 next)
+
+mapped_front : (n : ℕ) (a b : List ℕ) (m : Machine) → AreMapped m (take_all n (a ++ b)) → AreMapped m (take_all n a)
+mapped_front n [] b m all = tt
+mapped_front n (x ∷ a) b m all = (all.0, mapped_front n a b (one (Take x n) m) all.1)
 
 -- ---- who holds a page
 
@@ -83,6 +93,7 @@ module _ (m : Machine) (n : NodeId) (S : Machine → Type 0) (up : is_up (m.mode
   takes_then R next = record {
     pages = first.pages ++ next.pages;
     in_use = All-append (IsInUse m) first.pages next.pages first.in_use (All-weaker (IsInUse (dos (take_all n.0 first.pages) m)) (IsInUse m) (in_use_before n.0 first.pages m) next.pages next.in_use);
+    mapped = mapped_both n.0 first.pages next.pages m first.mapped next.mapped;
     free = held_both m n.0 first.pages next.pages first.free (sym (held_alike m (dos (take_all n.0 first.pages) m) n.0 next.pages (held_all n.0 first.pages m up first.free)) ∙ next.free);
     after = subst R (sym (two_takes n.0 first.pages next.pages m)) next.after;
   }
@@ -92,15 +103,16 @@ module _ (m : Machine) (n : NodeId) (S : Machine → Type 0) (up : is_up (m.mode
 
 -- none at all
 pub no_takes : (m : Machine) (n : NodeId) (S : Machine → Type 0) → S m → TakesPages m n S
-no_takes m n S shown = record { pages = []; in_use = All-nil (IsInUse m); free = refl; after = shown }
+no_takes m n S shown = record { pages = []; in_use = All-nil (IsInUse m); mapped = tt; free = refl; after = shown }
 
 -- ---- some of the pages
 
-pub some_takes : (m : Machine) (n : NodeId) (pages : List ℕ) (S : Machine → Type 0) → All (IsInUse m) pages → HasSome m (take_all n.0 pages) S → TakesPages m n S
-some_takes m n pages S in_use some =
+pub some_takes : (m : Machine) (n : NodeId) (pages : List ℕ) (S : Machine → Type 0) → All (IsInUse m) pages → AreMapped m (take_all n.0 pages) → HasSome m (take_all n.0 pages) S → TakesPages m n S
+some_takes m n pages S in_use mapped some =
     let same : take some.count (take_all n.0 pages) ≡ take_all n.0 (take some.count pages) = take-map (λ x. Take x n.0) some.count pages in record {
       pages = take some.count pages;
       in_use = All-take (IsInUse m) some.count pages in_use;
+      mapped = mapped_front n.0 (take some.count pages) (drop some.count pages) m (subst (λ ys. AreMapped m (take_all n.0 ys)) (sym (take-append-drop some.count pages)) mapped);
       free = subst (λ ps. held m ps ≡ None) same some.free;
       after = subst (λ ps. S (dos ps m)) same some.after;
     }

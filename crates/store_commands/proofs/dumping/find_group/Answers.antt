@@ -1,5 +1,5 @@
 use Rattle.std.specs.Prelude.{◌≡◌, ◌<◌, ⊤, true, Ok, Err, IsTrue}
-use Rattle.std.proofs.Common.{arith, ap, inl, subst, sym, ◌∙◌}
+use Rattle.std.proofs.Common.{arith, ap, subst, sym, ◌∙◌}
 use Rattle.sd_base.specs.Shape.{page_count}
 use Rattle.record_machine.specs.Machine.{Machine}
 use Rattle.record_machine.specs.Parts.{Take, one}
@@ -50,7 +50,7 @@ returns-in_err-take-clause-step g c = λ told m shown.
     let up = mode_up c.args.store.now c.args.n.0 (g.D.Disk.state c.args.disk.now).block m c.requires.ready.is c.requires.node c.requires.up shown in
     let near : c.loop-x.x < m.shape.maps = subst (λ s. c.loop-x.x < s.maps) (sym shown.1.nodes.shape) c.loop-x-test.true in
     dumps_pass m c.args.n c.take.result c.from_residual.result e.0 R _ _ (c.in_err-take.was ∙ ap Err (sym e.2)) e.1
-    (page_dumped m c.args.n c.loop-x.x (held_in c.loop-x.store (record { 0 = c.loop-x.x })) c.take.result S R up before.1 (inl near)
+    (page_dumped m c.args.n c.loop-x.x (held_in c.loop-x.store (record { 0 = c.loop-x.x })) c.take.result S R up before.1 near
     (λ k is. c.take.ensures.refused told k is)
     (some_then (held_in c.loop-x.store (record { 0 = c.loop-x.x })) _ (λ why. (c.take.result ≡ Err why) × ((k : Machine) → S k → R k)) c.take.ensures.held (λ why same. (same.0, λ k is. subst (λ v. IsShown v (g.D.Disk.state c.take.new.disk).block k) (sym same.1) (subst (λ d. IsShown c.loop-x.store (g.D.Disk.state d).block k) (sym same.2) is))))
     (λ k is free. error_then c.take.result _ (λ why. says_stop why ≡ true) c.take.ensures.stopped (λ why stops. stops told k is free))
@@ -78,7 +78,7 @@ loop-x-preserved g c =
           let R : Machine → Type 0 = IsShown c.take.new.store d''.block in
           let up = mode_up c.args.store.now n (g.D.Disk.state c.args.disk.now).block m c.requires.ready.is c.requires.node c.requires.up shown in
           let near : c.loop-x.x < m.shape.maps = subst (λ s. c.loop-x.x < s.maps) (sym shown.1.nodes.shape) c.loop-x-test.true in
-          let that = page_dumped m c.args.n c.loop-x.x (held_in c.loop-x.store (record { 0 = c.loop-x.x })) c.take.result S R up before.1 (inl near)
+          let that = page_dumped m c.args.n c.loop-x.x (held_in c.loop-x.store (record { 0 = c.loop-x.x })) c.take.result S R up before.1 near
           (λ k is. c.take.ensures.refused told k is)
           (some_then (held_in c.loop-x.store (record { 0 = c.loop-x.x })) _ (λ why. (c.take.result ≡ Err why) × ((k : Machine) → S k → R k)) c.take.ensures.held (λ why same. (same.0, λ k is. subst (λ v. IsShown v d''.block k) (sym same.1) (subst (λ d. IsShown c.loop-x.store (g.D.Disk.state d).block k) (sym same.2) is))))
           (λ k is free. error_then c.take.result _ (λ why. says_stop why ≡ true) c.take.ensures.stopped (λ why stops. stops told k is free))

@@ -24,7 +24,7 @@ returns-in_err-x-clause-step g c = λ told m shown.
     let e = the_error c.from_residual.result _ c.from_residual.ensures.1 in
     let S : Machine → Type 0 = IsShown c.take_group.new.store (g.D.Disk.state c.take_group.new.disk).block in
     dumps_pass m c.args.n c.take_group.result c.from_residual.result e.0 S _ _ (c.in_err-x.was ∙ ap Err (sym e.2)) e.1
-    (group_dumped m c.args.n c.args.first.0 c.take_group.result S shown.1.nodes.means.pages.shape (c.take_group.ensures.step told m shown))
+    (group_dumped shown.0 m c.args.n c.args.first.0 c.take_group.result S shown.1.nodes.means.pages (c.take_group.ensures.step told m shown))
 
 -- ---- the group has no page
 
@@ -37,7 +37,7 @@ returns-in-None-clause-takes g c =
 pub returns-in-None-clause-step : goal.returns-in-None-clause-step
 returns-in-None-clause-step g c = λ told m shown.
     let S : Machine → Type 0 = IsShown c.take_group.new.store (g.D.Disk.state c.take_group.new.disk).block in
-    let that = dumps_done m c.args.n c.take_group.result c.in_ok-x.field-0 S (λ value. ⊤) c.in_ok-x.was (group_dumped m c.args.n c.args.first.0 c.take_group.result S shown.1.nodes.means.pages.shape (c.take_group.ensures.step told m shown)) in
+    let that = dumps_done m c.args.n c.take_group.result c.in_ok-x.field-0 S (λ value. ⊤) c.in_ok-x.was (group_dumped shown.0 m c.args.n c.args.first.0 c.take_group.result S shown.1.nodes.means.pages (c.take_group.ensures.step told m shown)) in
     (none_in_group c.args.store.now (g.D.Disk.state c.args.disk.now).block m shown c.args.first.0 (sym (c.in_ok-x.ensures.found told m shown) ∙ ap (option_map (λ x. x.0)) c.in-None.is), that.1)
 
 -- ---- it has one
@@ -59,7 +59,7 @@ returns-in-Some-clause-step g c = λ told m shown.
     let now = c.take_group.new.store in
     let b = (g.D.Disk.state c.take_group.new.disk).block in
     let S : Machine → Type 0 = IsShown now b in
-    let that = dumps_done m c.args.n c.take_group.result c.in_ok-x.field-0 S (λ value. ⊤) c.in_ok-x.was (group_dumped m c.args.n c.args.first.0 c.take_group.result S shown.1.nodes.means.pages.shape (c.take_group.ensures.step told m shown)) in
+    let that = dumps_done m c.args.n c.take_group.result c.in_ok-x.field-0 S (λ value. ⊤) c.in_ok-x.was (group_dumped shown.0 m c.args.n c.args.first.0 c.take_group.result S shown.1.nodes.means.pages (c.take_group.ensures.step told m shown)) in
     let is = sym (c.in_ok-x.ensures.found told m shown) ∙ ap (option_map (λ x. x.0)) c.in-Some.is in
     let page = subst (λ o. IfSome o (λ x. (s.maps ≤ x.0) × (x.0 < page_count s) × HasCached now c.args.n.0 x)) c.in-Some.is c.in_ok-x.ensures.page in
     let shape = sym c.take_group.ensures.works.shape in
