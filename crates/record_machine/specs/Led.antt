@@ -33,6 +33,12 @@ LedErr n (says.Stopped h) ps m S = Broke n h.0 ps m S
 LedErr n (says.Fault h) ps m S = Broke n h.0 ps m S
 LedErr n why ps m S = ⊥
 
+-- where the reply says so, this holds; what another reply leaves is said elsewhere
+abbrev pub LedOnStop : ℕ → Reply → List Part → Machine → (Machine → Type 0) → Type 0
+LedOnStop n (says.Stopped h) ps m S = Broke n h.0 ps m S
+LedOnStop n (says.Fault h) ps m S = Broke n h.0 ps m S
+LedOnStop n why ps m S = ⊤
+
 -- A call by node n that may only do these parts, or stop: what it leaves is a state of S.
 abbrev pub Led : {A : Type 0} → ℕ → Result A Reply → List Part → Machine → (Machine → Type 0) → Type 0
 Led n (Ok x) ps m S = S (dos ps m)

@@ -6,6 +6,7 @@ pub mod Sure
 pub mod Flushed
 pub mod FlushedPages
 pub mod LogReads
+pub mod ReadEndures
 pub mod FoundWrites
 pub mod Walks
 pub mod ShownRoom
