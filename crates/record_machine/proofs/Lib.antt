@@ -40,6 +40,7 @@ pub mod StopSurvives
 pub mod CutSteps
 pub mod LoggedStops
 pub mod StillStops
+pub mod EndStops
 pub mod FewLoose
 pub mod TakenStops
 pub mod DroppedStops

@@ -13,7 +13,9 @@ pub mod Broken
 pub mod HaltedNodes
 pub mod StoppedEndures
 pub mod MayHalts
+pub mod RingEndures
 pub mod LoggedEndures
+pub mod LastRecords
 pub mod EnduresBegun
 pub mod ShownBegin
 pub mod ShownEnd
@@ -28,6 +30,7 @@ pub mod OtherRecords
 pub mod ShownUse
 pub mod LogReplies
 pub mod LeftWrites
+pub mod Seated
 pub mod BackDeeds
 pub mod ShownBack
 pub mod ShownReopening
