@@ -1,5 +1,5 @@
 -- How far a call has led the machine: it did all parts, or a node stopped in it.
-use Rattle.std.specs.Prelude.{◌≡◌, ◌⊎◌, ◌≤◌, ◌∷◌, ℕ, Bool, true, false, All, List, Option, Some, None, Result, Ok, Err, drop, is_none, length, take, if◌then◌else◌}
+use Rattle.std.specs.Prelude.{◌≡◌, ◌⊎◌, ◌≤◌, ◌∷◌, ℕ, Bool, true, false, All, List, Option, Some, None, Result, Ok, Err, drop, is_none, length, take, if◌then◌else◌, ⊤}
 use Rattle.script_text.specs.declared.reply.Reply.{Reply}
 use Rattle.script_text.specs.declared.reply.Reply.TheVariants as says
 use Rattle.record_machine.specs.Machine.{Machine}

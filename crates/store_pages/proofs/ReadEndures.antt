@@ -1,5 +1,5 @@
 -- A store endures a call of a node that only reads: where the node's port stops in it, it may halt.
-use Rattle.std.specs.Prelude.{◌≡◌, ◌-◌, ℕ, Bool, true, false, nat_le, List, if◌then◌else◌, map, refl}
+use Rattle.std.specs.Prelude.{◌≡◌, ◌-◌, ℕ, Bool, true, false, nat_le, All, List, if◌then◌else◌, map, refl}
 use Rattle.std.proofs.Common.{inl, subst, sym}
 use Rattle.sd_base.specs.Disk.{BlockState}
 use Rattle.sd_base.specs.Calls.{KeepsForeign, Narrows}
@@ -80,7 +80,7 @@ module _ (me : Store) (n i : ℕ) (c : CacheState) (seats : SeatsState) (is : Is
   pub log_shown : HasRecords c.log b (p.live n)
   log_shown = mine.1.records
 
-  tied : TiesUp n c e.history
+  tied : TiesUp n c seats e.history
   tied = subst (λ o. TiesNode me.shape n o b e.history) up (e.tied.node n place (logs.low me n i c c seats seats is place at up))
 
   same : e.history.live n ≡ p.live n
@@ -93,4 +93,4 @@ module _ (me : Store) (n i : ℕ) (c : CacheState) (seats : SeatsState) (is : Is
       let cut : IsCutLog (region c.log) c.log.start c.log.stable b' (map record_text (e.history.live n)) = subst (λ (l : List LogRecord). IsCutLog (region c.log) c.log.start c.log.stable b' (map record_text l)) (sym same) was in
       logged_halts me n i c c seats seats is place at up b b' p p m m e e.history (λ k o may. inl (narrows k o may)) (λ k beside other. foreign k other) quiet refl refl refl (λ x. refl) refl refl
       (λ k k_is far. record { live = refl; mode = refl; start = refl; pending = refl; images = λ q d low. refl; lives = λ q d low. refl }) (λ k far. record { live = refl; stable = refl; first = refl })
-      b'' mine.0 settled stops (subst (All IsLegal) (sym same) mine.1.records.legal) cut (stable_cut n c b' e.history _ cut tied) still e.lockers refl e.survives
+      b'' mine.0 settled stops (subst (All IsLegal) (sym same) mine.1.records.legal) cut (stable_cut n c b' e.history _ cut tied.stable) still e.lockers refl e.survives

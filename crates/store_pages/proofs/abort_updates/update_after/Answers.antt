@@ -208,13 +208,13 @@ returns-clause-led g c = λ told m was.
     let number = (logs.work me n i k k seats seats is c.requires.node c.place.ensures.is up).number in
     subst (λ why. LedOnStop n why [] m (Endures c.give_up.new.self b2)) (sym c.give_up.ensures.says)
     (led_on_stop n (first_page s) f [] m (Endures c.give_up.new.self b2) (log_stop (region k.log) n f (subst (λ j. IsLogFault (region k.log) j f) number c.in-Err.ensures.fault)) (λ stop.
-        let halts : MayHalt n (record { shape = s; shared = me.shared; nodes = slice_set me.nodes i (Up k seats) }) b2 m = (
-          p,
-          logs.there me n i k k seats seats is c.requires.node c.place.ensures.is up (λ os. MayHaltAs n (record { shape = s; shared = me.shared; nodes = os }) b2 p m)
-              (read_halts me n i k seats is c.requires.node c.place.ensures.is up a p m was.1 (g.D.Disk.state c.find_update.new.disk).block b2 (c.requires.quiet told) (c.find_update.ensures.outcomes told) (c.find_update.ensures.foreign told) (c.give_up.ensures.outcomes told) (c.give_up.ensures.foreign told)
-              (of_stop n f _ stop c.in-Err.ensures.still told free) (of_stop n f _ stop c.in-Err.ensures.cut told free (p.live n) (log_shown me n i k seats is c.requires.node c.place.ensures.is up a p m was.1))),
-        ) in
-        broke_here n [] 0 m (Endures c.give_up.new.self b2) (no_unlock [] refl) (of_stop n f _ stop c.give_up.ensures.led told m halts)))
+    let halts : MayHalt n (record { shape = s; shared = me.shared; nodes = slice_set me.nodes i (Up k seats) }) b2 m = (
+      p,
+      logs.there me n i k k seats seats is c.requires.node c.place.ensures.is up (λ os. MayHaltAs n (record { shape = s; shared = me.shared; nodes = os }) b2 p m)
+          (read_halts me n i k seats is c.requires.node c.place.ensures.is up a p m was.1 (g.D.Disk.state c.find_update.new.disk).block b2 (c.requires.quiet told) (c.find_update.ensures.outcomes told) (c.find_update.ensures.foreign told) (c.give_up.ensures.outcomes told) (c.give_up.ensures.foreign told)
+          (of_stop n f _ stop c.in-Err.ensures.still told free) (of_stop n f _ stop c.in-Err.ensures.cut told free (p.live n) (log_shown me n i k seats is c.requires.node c.place.ensures.is up a p m was.1))),
+    ) in
+    broke_here n [] 0 m (Endures c.give_up.new.self b2) (no_unlock [] refl) (of_stop n f _ stop c.give_up.ensures.led told m halts)))
 
 -- ---- where the log was read
 
@@ -288,7 +288,7 @@ returns-in-Ok-clause-kept g c =
     err_then c.of_store.result _ _ c.of_store.ensures.fault (λ why fault live. (store_read me n i k seats is c.requires.node c.place.ensures.is up, λ told. c.in-Ok.ensures.blocks told))
 
 pub returns-in-Ok-clause-led : goal.returns-in-Ok-clause-led
-returns-in-Ok-clause-led g c = err_then c.of_store.result _ _ c.of_store.ensures.fault (λ why is told m was. block_led c.args.t.node.0 _ why [] m _ is)
+returns-in-Ok-clause-led g c = err_then c.of_store.result _ _ c.of_store.ensures.fault (λ why is told m was. block_led c.args.t.node.0 (region_of c.args.store.now.shape c.args.t.node.0) why [] m _ is)
 
 pub returns-in-Ok-clause-same : goal.returns-in-Ok-clause-same
 returns-in-Ok-clause-same g c =

@@ -189,13 +189,13 @@ returns-clause-led g c = λ told m was.
     let recs = (log_shown me n i k seats is c.requires.node c.place.ensures.is up a p m was.1).on in
     subst (λ why. LedOnStop n why [] m (Endures c.give_up.new.self b2)) (sym c.give_up.ensures.says)
     (led_on_stop n (first_page s) f [] m (Endures c.give_up.new.self b2) (page_stop s c.args.x n f (subst (λ j. IsPageFault s c.args.x j f) number c.in-Err.ensures.fault)) (λ stop.
-        let halts : MayHalt n (record { shape = s; shared = me.shared; nodes = slice_set me.nodes i (Up k seats) }) b2 m = (
-          p,
-          logs.there me n i k k seats seats is c.requires.node c.place.ensures.is up (λ os. MayHaltAs n (record { shape = s; shared = me.shared; nodes = os }) b2 p m)
-              (read_halts me n i k seats is c.requires.node c.place.ensures.is up a p m was.1 b b2 (c.requires.quiet told) (c.reread.ensures.outcomes told) (c.reread.ensures.foreign told) (c.give_up.ensures.outcomes told) (c.give_up.ensures.foreign told)
-              (of_stop n f _ stop (c.in-Err.ensures.still told free)) (of_stop n f _ stop (c.in-Err.ensures.cut told free _ recs))),
-        ) in
-        broke_here n [] 0 m (Endures c.give_up.new.self b2) (no_unlock [] refl) (of_stop n f _ stop c.give_up.ensures.led told m halts)))
+    let halts : MayHalt n (record { shape = s; shared = me.shared; nodes = slice_set me.nodes i (Up k seats) }) b2 m = (
+      p,
+      logs.there me n i k k seats seats is c.requires.node c.place.ensures.is up (λ os. MayHaltAs n (record { shape = s; shared = me.shared; nodes = os }) b2 p m)
+          (read_halts me n i k seats is c.requires.node c.place.ensures.is up a p m was.1 b b2 (c.requires.quiet told) (c.reread.ensures.outcomes told) (c.reread.ensures.foreign told) (c.give_up.ensures.outcomes told) (c.give_up.ensures.foreign told)
+          (of_stop n f _ stop (c.in-Err.ensures.still told free)) (of_stop n f _ stop (c.in-Err.ensures.cut told free _ recs))),
+    ) in
+    broke_here n [] 0 m (Endures c.give_up.new.self b2) (no_unlock [] refl) (of_stop n f _ stop c.give_up.ensures.led told m halts)))
 
 -- ---- where the block was read
 
