@@ -18,6 +18,8 @@ pub mod RingEndures
 pub mod LoggedEndures
 pub mod LastRecords
 pub mod EnduresBegun
+pub mod EnduresEnded
+pub mod EnduresStarted
 pub mod ShownBegin
 pub mod ShownEnd
 pub mod Logs

@@ -51,4 +51,4 @@ module _ (me : Store) (n i : ℕ) (c d : CacheState) (seats after : SeatsState) 
   pub logged_halts : (b'' : ℕ → BlockState) → m'.mode n ≡ machine.Up → Narrows b' b'' → KeepsForeign n b' b'' → All IsLegal (h'.live n) → (cut : IsCutLog (region c.log) c.log.start c.log.stable b' (map record_text (h'.live n))) → h'.stable n ≤ cut.count → IsStill (region c.log) b' → AreBusy m' → m'.locks ≡ m.locks → SurvivesAs e.held e.dirty h' p' m'
       → MayHaltAs n (S (with_node me.nodes n (Up d after))) b'' p' m'
   logged_halts b'' live settled stops legal cut sure still busy locks survives =
-      ring_halts me n i (c.log.tail / 6) c d seats after is place at up b b' p p' m m' e h' narrows foreign quiet shape reopening gone hold disk first leaves logged b'' live settled stops legal cut sure still busy locks survives
+      ring_halts me n i (c.log.tail / 6) c d seats after is place at up b b' p p' m m' e h' narrows foreign quiet shape reopening gone hold disk first leaves logged b'' live settled stops legal cut sure still (λ key t how has up far. busy key t how has up) locks survives

@@ -22,14 +22,14 @@ use Rattle.record_locks.specs.Held.{Held}
 use Rattle.store_nodes.specs.declared.node.Node.{Node}
 use Rattle.store_nodes.specs.declared.node.Node.TheVariants.{Up}
 use Rattle.store_nodes.specs.declared.store.Store.{Store}
-use Rattle.store_nodes.specs.Endures.{AreBusy, EnduresAs, MayHaltAs, with_held}
+use Rattle.store_nodes.specs.Endures.{AreBusy, AreBusyBut, EnduresAs, MayHaltAs, with_held}
 use Rattle.store_nodes.specs.Nodes.{IsAtWork, IsPlace, IsStore, node_at, with_node}
 use Rattle.store_nodes.specs.Ports.{IsQuiet}
 use Rattle.store_nodes.specs.Shows.{ShowsUp}
 use Rattle.store_nodes.specs.Tied.{TiesNode, TiesPage, TiesUp}
 use Rattle.store_nodes.proofs.Eight.{others_stay}
 use Rattle.store_nodes.proofs.Logs as logs
-use Rattle.store_nodes.proofs.MayHalts.{clean_halting, may_halt}
+use Rattle.store_nodes.proofs.MayHalts.{clean_halting, may_halt_with}
 use Rattle.store_nodes.proofs.OtherLogs.{LeavesRegion, others_leave, others_settle, region_then}
 use Rattle.store_nodes.proofs.ShownOthers.{LeavesNode}
 use Rattle.store_nodes.proofs.ShownWith.{changed_same, nodes_with, settled_before}
@@ -81,14 +81,14 @@ module _ (me : Store) (n i number : ℕ) (c d : CacheState) (seats after : Seats
   }
 
   -- or the node is about to halt, whose port has stopped in it
-  pub ring_halts : (b'' : ℕ → BlockState) → m'.mode n ≡ machine.Up → Narrows b' b'' → KeepsForeign n b' b'' → All IsLegal (h'.live n) → (cut : IsCutLog (region c.log) c.log.start c.log.stable b' (map record_text (h'.live n))) → h'.stable n ≤ cut.count → IsStill (region c.log) b' → AreBusy m' → m'.locks ≡ m.locks → SurvivesAs e.held e.dirty h' p' m'
+  pub ring_halts : (b'' : ℕ → BlockState) → m'.mode n ≡ machine.Up → Narrows b' b'' → KeepsForeign n b' b'' → All IsLegal (h'.live n) → (cut : IsCutLog (region c.log) c.log.start c.log.stable b' (map record_text (h'.live n))) → h'.stable n ≤ cut.count → IsStill (region c.log) b' → AreBusyBut n m' → m'.locks ≡ m.locks → SurvivesAs e.held e.dirty h' p' m'
       → MayHaltAs n (record { shape = me.shape; shared = me.shared; nodes = with_node me.nodes n (Up d after) }) b'' p' m'
   ring_halts b'' live settled stops legal cut sure still busy locks survives =
       let own = logs.region_here me n i c d seats after is place_is at up in
       let begins : h'.devices.first n ≡ 6 * c.log.start = first ∙ was_tied.first in
       let eight' : length (with_node me.nodes n (Up d after)) ≡ 8 = length-set me.nodes (n - 1) (Up d after) ∙ is.shared.eight in
       let stay = others_stay me.nodes n (Up d after) is.shared.eight place_is in
-      may_halt me n c seats is place_is up (with_node me.nodes n (Up d after)) eight' stay b b'' p p' m m' e me.shared.pool e.dirty h' cut.count live shape locks reopening gone hold disk
+      may_halt_with me n c seats is place_is up (with_node me.nodes n (Up d after)) eight' stay b b'' p p' m m' e me.shared.pool e.dirty h' cut.count live shape locks reopening gone hold disk
       (λ k k_is most far. region_then (region_of me.shape k) b b' b'' (others k k_is most far)
       (others_settle me.shape me.nodes n (place (region c.log) number) b b' is.shared.shape place_is.0 low (up_most me.shape me.shared.pool me.shared.owners me.nodes is) (place_inside me.shape n c number work.number work.store work.log_tie) quiet (subst (λ k. KeepsForeignBut (place (region c.log) number) k b b') work.number foreign) b'' stops k k_is most far))
       (λ k k_is far j a below. refl) leaves logged busy (clean_halting me n c seats is place_is up (with_node me.nodes n (Up d after)) eight' stay e.dirty m m' reopening e.clean)

@@ -91,7 +91,7 @@ module _ (me : Store) (n i : ℕ) (c d : CacheState) (seats : SeatsState) (is : 
     p,
     ring_halts me n i ((c.log.tail - 1) / 6) c d seats seats is place at up b b' p p m m e h narrows foreign quiet refl refl refl (λ x. refl) refl refl
         (λ k k_is far. record { live = refl; mode = refl; start = refl; pending = refl; images = λ j q below. refl; lives = λ j q below. refl }) (λ k far. record { live = refl; stable = refl; first = refl })
-        b'' mine.0 settled stops (subst (All IsLegal) (sym live) mine.1.records.legal) cut (stable_cut n c b' h _ cut tied.stable) still e.lockers refl e.survives,
+        b'' mine.0 settled stops (subst (All IsLegal) (sym live) mine.1.records.legal) cut (stable_cut n c b' h _ cut tied.stable) still (λ key t how has up far. e.lockers key t how has up) refl e.survives,
   )
     where
       cut : IsCutLog (region c.log) c.log.start c.log.stable b' (map record_text (h.live n))
