@@ -40,6 +40,8 @@ pub mod StopSurvives
 pub mod CutSteps
 pub mod LoggedStops
 pub mod StillStops
+pub mod WholeLogs
+pub mod LostTables
 pub mod FewLoose
 pub mod TakenStops
 pub mod DroppedStops
