@@ -20,6 +20,10 @@ pub mod RoomMade
 pub mod PageReplies
 pub mod ShownGiven
 pub mod PageCalls
+pub mod PagesWritten
+pub mod PageOutcomes
+pub mod PagedEndures
+pub mod GivenEndures
 pub mod ShownTaken
 pub mod WorksWith
 pub mod Passes
