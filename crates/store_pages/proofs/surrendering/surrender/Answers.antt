@@ -1,4 +1,4 @@
-use Rattle.std.specs.Prelude.{◌≡◌, ◌<◌, ◌≤◌, ◌∷◌, [], true, None, refl, length, map, slice_set}
+use Rattle.std.specs.Prelude.{◌≡◌, ◌<◌, ◌≤◌, [], true, None, refl, length, map, slice_set}
 use Rattle.std.specs.List.{cons_option}
 use Rattle.std.proofs.Common.{arith, inr, ap, subst, subst₂, sym, ◌∙◌, length-set}
 use Rattle.sd_base.specs.Disk.{IsFreeFor}
@@ -298,6 +298,6 @@ returns-clause-led g c = λ told m unlost was.
       subst₂ (λ pool own. MayHaltAs n (record { shape = s; shared = record { pool = pool; owners = own; locks = me.shared.locks; reopening = me.shared.reopening }; nodes = slice_set me.nodes i (Up d seats) }) b2 p m) (sym c.in-Err.ensures.pool_kept) (sym c.in-Err.ensures.owners_kept)
           (logs.there me n i k d seats seats is c.requires.node c.place.ensures.is up (λ os. MayHaltAs n (record { shape = s; shared = me.shared; nodes = os }) b2 p m) halts),
     ) in
-    subst (λ why. LedErr n why (Drop x.0 ∷ []) m (Endures new b2)) (sym c.give_up.ensures.says)
-    (led_fault n (first_page s) c.in-Err.fault (Drop x.0 ∷ []) m (Endures new b2) stop
-    (broke_here n (Drop x.0 ∷ []) 0 m (Endures new b2) (no_unlock [] refl) (of_stop n c.in-Err.fault _ stop c.give_up.ensures.led told m there)))
+    subst (λ why. LedErr n why [] m (Endures new b2)) (sym c.give_up.ensures.says)
+    (led_fault n (first_page s) c.in-Err.fault [] m (Endures new b2) stop
+    (broke_here n [] 0 m (Endures new b2) (no_unlock [] refl) (of_stop n c.in-Err.fault _ stop c.give_up.ensures.led told m there)))
