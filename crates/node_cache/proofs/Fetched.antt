@@ -36,7 +36,7 @@ use Rattle.node_cache.proofs.RoomLaws.{same_content}
 -- ---- the frames of the pages that stay
 
 -- in the pool in which those that leave have given their frames back
-frames_left : (s : Shape) (x : PageNo) (node : NodeId) (pages : List CachedPage) (pool : List (Option (List ℕ))) → IsCache node pages → All (λ q. frame_at (freed (leaving s x pages) pool) q.frame ≡ frame_at pool q.frame) (staying s x pages)
+pub frames_left : (s : Shape) (x : PageNo) (node : NodeId) (pages : List CachedPage) (pool : List (Option (List ℕ))) → IsCache node pages → All (λ q. frame_at (freed (leaving s x pages) pool) q.frame ≡ frame_at pool q.frame) (staying s x pages)
 frames_left s x node pages pool is = elim (who_leaves s x pages) [
   | inl none ↦ λ k d low. ap (λ left. frame_at (freed left pool) (slice_index_or (staying s x pages) k d).frame) none.0
   | inr one ↦ λ k d low.
@@ -72,16 +72,28 @@ at_once (q ∷ pages) (suc i) p once at =
 abbrev pub has_more : Option CachedPage → Bool
 has_more o = is_some (option_and_then first_change o)
 
--- A page that the cache hasn't changed after a fetch of x it hadn't changed before, or it has left with its changes.
-pub changed_after : (s : Shape) (x y : PageNo) (e : Option MapEntry) (c d : CacheState) (pool new : List (Option (List ℕ))) → IsCache c.node c.pages → Arrived s x e (staying s x c.pages) pool d new → is_changed y d ≡ false
+-- A page that the cache hasn't changed, unless it is the page that made room for x and left with its changes.
+pub left_or_kept : (s : Shape) (x y : PageNo) (c : CacheState) → IsCache c.node c.pages → (page_at y (staying s x c.pages) ≡ page_at y c.pages → is_changed y c ≡ false)
     → (is_changed y c ≡ false) ⊎ ((p : CachedPage) × (leaving s x c.pages ≡ p ∷ []) × (p.ticket.page ≡ y) × (p.changes ≢ None))
-changed_after s x y e c d pool new is came not = elim (who_leaves s x c.pages) [
-  | inl none ↦ inl (still (page_at y c.pages) refl (ap (λ ps. page_at y ps) none.1))
+left_or_kept s x y c is kept = elim (who_leaves s x c.pages) [
+  | inl none ↦ inl (kept (ap (λ ps. page_at y ps) none.1))
   | inr one ↦ elim (this_or_other y one.1.page.ticket.page) [
     | inl gone ↦ went one.1.page (let at = at_once c.pages one.0 one.1.page is.once one.1.at in ap (λ z. page_at z c.pages) (sym gone) ∙ at) one.1.left gone
-    | inr other ↦ inl (still (page_at y c.pages) refl (ap (page_at y) one.1.stayed ∙ other_found c.pages one.0 one.1.page y one.1.at other))
+    | inr other ↦ inl (kept (ap (page_at y) one.1.stayed ∙ other_found c.pages one.0 one.1.page y one.1.at other))
   ]
 ]
+  where
+    went : (p : CachedPage) → page_at y c.pages ≡ Some p → leaving s x c.pages ≡ p ∷ [] → p.ticket.page ≡ y → (is_changed y c ≡ false) ⊎ ((p : CachedPage) × (leaving s x c.pages ≡ p ∷ []) × (p.ticket.page ≡ y) × (p.changes ≢ None))
+    went p here left page = by p.changes refl
+      where
+        by : (o : Option Changes) → p.changes ≡ o → (is_changed y c ≡ false) ⊎ ((p : CachedPage) × (leaving s x c.pages ≡ p ∷ []) × (p.ticket.page ≡ y) × (p.changes ≢ None))
+        by None clean = inl (ap has_more here ∙ rw clean refl)
+        by (Some ch) dirty = inr (p, left, page, λ none. let never : Some ch ≡ None = sym dirty ∙ none in cc)
+
+-- where x came in,
+pub changed_after : (s : Shape) (x y : PageNo) (e : Option MapEntry) (c d : CacheState) (pool new : List (Option (List ℕ))) → IsCache c.node c.pages → Arrived s x e (staying s x c.pages) pool d new → is_changed y d ≡ false
+    → (is_changed y c ≡ false) ⊎ ((p : CachedPage) × (leaving s x c.pages ≡ p ∷ []) × (p.ticket.page ≡ y) × (p.changes ≢ None))
+changed_after s x y e c d pool new is came not = left_or_kept s x y c is (still (page_at y c.pages) refl)
   where
     still : (o : Option CachedPage) → page_at y c.pages ≡ o → page_at y (staying s x c.pages) ≡ page_at y c.pages → is_changed y c ≡ false
     still None here same = ap has_more here
@@ -89,12 +101,10 @@ changed_after s x y e c d pool new is came not = elim (who_leaves s x c.pages) [
         let found : page_at y d.pages ≡ Some q = ap (page_at y) came.last ∙ find-append (is_page y) (staying s x c.pages) _ ∙ ap (λ o. option_or o (find (is_page y) (record { ticket = record { page = x; node = d.node }; frame = came.frame; entry = e; changes = None } ∷ []))) (same ∙ here) in
         ap has_more here ∙ sym (ap has_more found) ∙ not
 
-    went : (p : CachedPage) → page_at y c.pages ≡ Some p → leaving s x c.pages ≡ p ∷ [] → p.ticket.page ≡ y → (is_changed y c ≡ false) ⊎ ((p : CachedPage) × (leaving s x c.pages ≡ p ∷ []) × (p.ticket.page ≡ y) × (p.changes ≢ None))
-    went p here left page = by p.changes refl
-      where
-        by : (o : Option Changes) → p.changes ≡ o → (is_changed y c ≡ false) ⊎ ((p : CachedPage) × (leaving s x c.pages ≡ p ∷ []) × (p.ticket.page ≡ y) × (p.changes ≢ None))
-        by None clean = inl (ap has_more here ∙ rw clean refl)
-        by (Some ch) dirty = inr (p, left, page, λ none. let never : Some ch ≡ None = sym dirty ∙ none in cc)
+-- and where it didn't
+pub changed_missed : (s : Shape) (x y : PageNo) (c d : CacheState) → IsCache c.node c.pages → d.pages ≡ staying s x c.pages → is_changed y d ≡ false
+    → (is_changed y c ≡ false) ⊎ ((p : CachedPage) × (leaving s x c.pages ≡ p ∷ []) × (p.ticket.page ≡ y) × (p.changes ≢ None))
+changed_missed s x y c d is pages not = left_or_kept s x y c is (λ same. ap has_more (sym same ∙ ap (page_at y) (sym pages)) ∙ not)
 
 -- a page that isn't cached isn't among those that stay
 pub not_staying : (s : Shape) (x : PageNo) (c : CacheState) → is_cached x c ≡ false → is_some (page_at x (staying s x c.pages)) ≡ false

@@ -1,6 +1,6 @@
 //! A page comes into the cache, and where the cache is full another one leaves it.
 
-ghost use Rattle.std.specs.Prelude.{◌≡◌, ◌≢◌, ◌⊎◌, ◌+◌, ◌≤◌, ◌<◌, ℕ, List, Option, Some, None, true, false, All, AllPairs, IsTrue, IsOk, IfSome, IfOk, IfErr, OnOk, OnErr, MatchResult, [], length, slice_set};
+ghost use Rattle.std.specs.Prelude.{◌≡◌, ◌≢◌, ◌⊎◌, ◌+◌, ◌≤◌, ◌<◌, ℕ, List, Option, Some, None, true, false, All, AllPairs, IsTrue, IsOk, IfSome, IfOk, IfErr, OnOk, OnErr, MatchResult, [], count_by, length, slice_set};
 ghost use Rattle.std.specs.List.{position, remove, slice_get};
 ghost use Rattle.sd_base.specs.Disk.{IsPort, IsFreeFor, IsOutcome};
 ghost use Rattle.sd_base.specs.Calls.{Keeps, Narrows, NoNewWriter, NoNewWriterBut, KeepsForeign};
@@ -17,7 +17,7 @@ ghost use Rattle.page_owner.specs.Owners.{owner_of};
 ghost use Rattle.state_ids.specs.PageImage.{PageImage, in_life};
 ghost use Rattle.state_ids.specs.Held.{Shows};
 ghost use Rattle.state_ids.specs.Blocks.{FitsPage, HasSettled, HoldsPage, IsPageFault, IsToldOfPage, UnlessStopped, page_place};
-ghost use Rattle.node_cache.specs.Cache.{AreOut, AreOwned, AreShown, CachedPage, IsOfStore, IsTiedToDisk, IsTiedToLog, is_cached, page_at};
+ghost use Rattle.node_cache.specs.Cache.{AreOut, AreOwned, AreShown, CachedPage, IsOfStore, IsTiedToDisk, IsTiedToLog, has_changes, is_cached, page_at};
 ghost use Rattle.node_cache.specs.Records.{IsTiedToRecords};
 ghost use Rattle.node_cache.specs.Room.{Arrived, IsEntryOf, IsOpenTo, Missed, freed, is_map_of, leaving, may_go, parked, staying};
 ghost use Rattle.node_cache.specs.Writes.{AreFree, AreInReach, HoldsPages, IsWrittenAhead, KeepsContentsButPages, KeepsForeignButPages, NarrowsButPages};
@@ -117,6 +117,7 @@ impl NodeCache {
         ensures node { self.new.node ≡ self.old.node }
         ensures same { SameLog self.old.log self.new.log }
         ensures tail { self.new.log.tail ≡ self.old.log.tail }
+        ensures stable { OnOk result (1 ≤ count_by has_changes (leaving s.now x self.old.pages) → self.new.log.stable ≡ self.old.log.tail) }
         ensures rises { OnOk result (self.old.log.stable ≤ self.new.log.stable) }
         ensures pages { OnOk result (self.new.pages ≡ staying s.now x self.old.pages) }
         ensures pages_kept { OnErr result (self.new.pages ≡ self.old.pages) }
@@ -242,6 +243,7 @@ impl NodeCache {
         ensures node { self.new.node ≡ self.old.node }
         ensures same { SameLog self.old.log self.new.log }
         ensures tail { self.new.log.tail ≡ self.old.log.tail }
+        ensures stable { MatchResult result (λ _. 1 ≤ count_by has_changes (leaving s.now ticket.page self.old.pages) → self.new.log.stable ≡ self.old.log.tail) (λ r. UnlessStopped r.0 (1 ≤ count_by has_changes (leaving s.now ticket.page self.old.pages) → self.new.log.stable ≡ self.old.log.tail)) }
         ensures rises { MatchResult result (λ _. self.old.log.stable ≤ self.new.log.stable) (λ r. UnlessStopped r.0 (self.old.log.stable ≤ self.new.log.stable)) }
         ensures arrived { OnOk result (Arrived s.now ticket.page e (staying s.now ticket.page self.old.pages) (freed (leaving s.now ticket.page self.old.pages) pool.old) self.new pool.new) }
         ensures owners { OnOk result (owners.new ≡ parked (leaving s.now ticket.page self.old.pages) owners.old) }
@@ -321,6 +323,7 @@ impl NodeCache {
         ensures node { self.new.node ≡ self.old.node }
         ensures same { SameLog self.old.log self.new.log }
         ensures tail { self.new.log.tail ≡ self.old.log.tail }
+        ensures stable { StaysLive result (is_cached x self.old ≡ false → 1 ≤ count_by has_changes (leaving s.now x self.old.pages) → self.new.log.stable ≡ self.old.log.tail) }
         ensures rises { StaysLive result (self.old.log.stable ≤ self.new.log.stable) }
         ensures arrived { OnOk result (is_cached x self.old ≡ false → Arrived s.now x e (staying s.now x self.old.pages) (freed (leaving s.now x self.old.pages) pool.old) self.new pool.new) }
         ensures owners { OnOk result (is_cached x self.old ≡ false → owners.new ≡ parked (leaving s.now x self.old.pages) (slice_set owners.old x.0 (Out self.old.node))) }

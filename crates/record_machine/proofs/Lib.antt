@@ -41,6 +41,8 @@ pub mod CutSteps
 pub mod LoggedStops
 pub mod StillStops
 pub mod EndStops
+pub mod WholeLogs
+pub mod LostTables
 pub mod FewLoose
 pub mod TakenStops
 pub mod DroppedStops

@@ -34,7 +34,7 @@ module _ (dirty : ℕ → Bool) (h : History) (p : Plain) (m : Machine) (r : Rec
   abbrev end : ℕ → ℕ
   end k = length (h.live k)
 
-  standing : IsStanding h.devices (logs_at h end) h.guard (entry_at h end) (image_at h end) h.settled h.lock
+  pub standing : IsStanding h.devices (logs_at h end) h.guard (entry_at h end) (image_at h end) h.settled h.lock
   standing = r.holds.history.stands end (λ k. (r.holds.history.sound k, omega arith))
 
   pub ident_now : (x : ℕ) → x < page_count m.shape → m.ident x ≡ ident_of (image_now h x)

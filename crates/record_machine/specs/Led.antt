@@ -1,5 +1,5 @@
 -- How far a call has led the machine: it did all parts, or a node stopped in it.
-use Rattle.std.specs.Prelude.{◌≡◌, ◌⊎◌, ◌≤◌, ◌∷◌, ℕ, Bool, true, false, All, List, Option, Some, None, Result, Ok, Err, drop, is_none, length, take, if◌then◌else◌}
+use Rattle.std.specs.Prelude.{◌≡◌, ◌⊎◌, ◌≤◌, ◌∷◌, ℕ, Bool, true, false, All, List, Option, Some, None, Result, Ok, Err, drop, is_none, length, take, if◌then◌else◌, ⊤}
 use Rattle.script_text.specs.declared.reply.Reply.{Reply}
 use Rattle.script_text.specs.declared.reply.Reply.TheVariants as says
 use Rattle.record_machine.specs.Machine.{Machine}
@@ -32,6 +32,12 @@ abbrev pub LedErr : ℕ → Reply → List Part → Machine → (Machine → Typ
 LedErr n (says.Stopped h) ps m S = Broke n h.0 ps m S
 LedErr n (says.Fault h) ps m S = Broke n h.0 ps m S
 LedErr n why ps m S = ⊥
+
+-- where the reply says so, this holds; what another reply leaves is said elsewhere
+abbrev pub LedOnStop : ℕ → Reply → List Part → Machine → (Machine → Type 0) → Type 0
+LedOnStop n (says.Stopped h) ps m S = Broke n h.0 ps m S
+LedOnStop n (says.Fault h) ps m S = Broke n h.0 ps m S
+LedOnStop n why ps m S = ⊤
 
 -- A call by node n that may only do these parts, or stop: what it leaves is a state of S.
 abbrev pub Led : {A : Type 0} → ℕ → Result A Reply → List Part → Machine → (Machine → Type 0) → Type 0

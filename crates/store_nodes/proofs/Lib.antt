@@ -7,6 +7,7 @@ pub mod Started
 pub mod OtherLogs
 pub mod ShownOthers
 pub mod ShownWith
+pub mod EnduresShown
 pub mod ShownLogged
 pub mod Ties
 pub mod Broken

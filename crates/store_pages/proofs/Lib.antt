@@ -7,6 +7,7 @@ pub mod Flushed
 pub mod FlushedPages
 pub mod ForcedEndures
 pub mod LogReads
+pub mod ReadEndures
 pub mod FoundWrites
 pub mod Walks
 pub mod ShownRoom
@@ -19,6 +20,10 @@ pub mod RoomMade
 pub mod PageReplies
 pub mod ShownGiven
 pub mod PageCalls
+pub mod PagesWritten
+pub mod PageOutcomes
+pub mod PagedEndures
+pub mod GivenEndures
 pub mod ShownTaken
 pub mod WorksWith
 pub mod Passes

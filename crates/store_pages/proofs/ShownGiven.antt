@@ -88,6 +88,21 @@ up_given s pool new n x c d seats b b' p m is frames pages same log was =
       within = was.within;
     }
 
+-- ---- which pages no node has changed
+
+module _ (nodes : List Node) (owners : List Own) (n : NodeId) (x : PageNo) (c d : CacheState) (seats after : SeatsState) (eight : length nodes ≡ 8) (place : IsPlace n.0) (up : node_at nodes n.0 ≡ Up c seats)
+    (held : IsHeldBy n (owner_of owners x.0)) (known : (y : ℕ) (k : NodeId) → IsHeldBy k (owner_of owners y) → IsPlace k.0) (pages : d.pages ≡ without_page x c.pages) where
+  -- it was so before, where the node hadn't changed it
+  pub settled_given : (y : PageNo) → is_changed y c ≡ false → IsSettled (with_node nodes n.0 (Up d after)) (slice_set owners x.0 Nobody) y → IsSettled nodes owners y
+  settled_given y clean now = settled_earlier nodes owners (slice_set owners x.0 Nobody) n.0 c d seats after eight place up (λ m far. owner_given owners x n m far held) y (known y.0) clean now
+
+  -- and it hadn't, but for the page that it gave up
+  pub clean_given : (y : PageNo) → y.0 ≢ x.0 → IsSettled (with_node nodes n.0 (Up d after)) (slice_set owners x.0 Nobody) y → is_changed y c ≡ false
+  clean_given y far now =
+      let later = clean_later nodes owners (slice_set owners x.0 Nobody) n.0 c d seats after eight place up (λ m apart. owner_given owners x n m apart held) y now in
+      let same : page_at y d.pages ≡ page_at y c.pages = ap (page_at y) pages ∙ other_without x y c.pages (λ e. far (ap (λ (z : PageNo). z.0) (sym e))) in
+      ap has_more (sym same) ∙ later
+
 -- ---- the disk
 
 module _ (s : Shape) (pool : List (Option (List ℕ))) (owners : List Own) (nodes : List Node) (n : NodeId) (x : PageNo) (c d : CacheState) (seats after : SeatsState) (b b' : ℕ → BlockState) (p : Plain)
@@ -99,7 +114,7 @@ module _ (s : Shape) (pool : List (Option (List ℕ))) (owners : List Own) (node
   Settled y = IsSettled (with_node nodes n.0 (Up d after)) (slice_set owners x.0 Nobody) y
 
   earlier : (y : PageNo) → is_changed y c ≡ false → Settled y → IsSettled nodes owners y
-  earlier y clean now = settled_earlier nodes owners (slice_set owners x.0 Nobody) n.0 c d seats after eight place up (λ m far. owner_given owners x n m far held) y (known y.0) clean now
+  earlier = settled_given nodes owners n x c d seats after eight place up held known pages
 
   here : (y : PageNo) → y.0 < page_count s → y ≡ x → Settled y → IsOnDisk s b' p y
   here y within same now = by (is_changed x c) refl
@@ -125,8 +140,6 @@ module _ (s : Shape) (pool : List (Option (List ℕ))) (owners : List Own) (node
   stored_given y within now = elim (cases_eq y.0 x.0) [
     | inl same ↦ here y within (ap (λ k. record { 0 = k }) same) now
     | inr far ↦
-        let later = clean_later nodes owners (slice_set owners x.0 Nobody) n.0 c d seats after eight place up (λ m apart. owner_given owners x n m apart held) y now in
-        let same : page_at y d.pages ≡ page_at y c.pages = ap (page_at y) pages ∙ other_without x y c.pages (λ e. far (ap (λ (z : PageNo). z.0) (sym e))) in
-        let clean : is_changed y c ≡ false = ap has_more (sym same) ∙ later in
+        let clean = clean_given nodes owners n x c d seats after eight place up held known pages y far now in
         still_stored s p y c (cons_option (page_at x c.pages) []) pool b b' store tie living within (all_found (λ q. Shows pool q.frame (image_in s p q.ticket.page)) x c.pages shown) narrows (was y within (earlier y clean now))
   ]

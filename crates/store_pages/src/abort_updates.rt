@@ -1,22 +1,25 @@
 //! For an abort: which update is taken back next, and whether its page has room for that.
 
-ghost use Rattle.std.specs.Prelude.{◌≡◌, ◌⊎◌, ◌*◌, ◌+◌, ◌^◌, ◌<◌, ◌≤◌, true, false, None, Some, ℕ, List, IsTrue, IfErr, IfOk, IfSome, IsOk, MatchOption, OnOk};
+ghost use Rattle.std.specs.Prelude.{◌≡◌, ◌⊎◌, ◌*◌, ◌+◌, ◌^◌, ◌<◌, ◌≤◌, [], true, false, None, Some, ℕ, List, IsTrue, IfErr, IfOk, IfSome, IsOk, MatchOption, OnOk, map};
 ghost use Rattle.sd_base.specs.Calls.{Keeps, KeepsForeign, Narrows, NoNewWriter};
 ghost use Rattle.sd_base.specs.Faults.{Caused, IsStopOf, OnStop, StaysLive};
 ghost use Rattle.sd_base.specs.Shape.{IsShape, page_count};
 ghost use Rattle.log_record.specs.declared.record.LogRecord.{LogRecord};
+ghost use Rattle.log_record.specs.Text.{record_text};
 ghost use Rattle.private_log.specs.Content.{region_of};
 ghost use Rattle.private_log.specs.Frames.{IsInReach};
 ghost use Rattle.private_log.specs.Log.{region};
 ghost use Rattle.private_log.specs.Reading.{IsLogFault};
-ghost use Rattle.private_log.specs.Spread.{IsFreeRegion, IsStill};
+ghost use Rattle.private_log.specs.Spread.{IsCutLog, IsFreeRegion, IsStill};
 ghost use Rattle.node_cache.specs.Cache.{IsTiedToLog, is_cached};
 ghost use Rattle.state_ids.specs.Blocks.{page_place};
 ghost use Rattle.txn_core.specs.Seats.{AreTied, OpenTxn, is_busy, owed, txn_in};
 ghost use Rattle.txn_core.specs.Told.{AreTold, HasRecords};
+ghost use Rattle.record_machine.specs.Led.{LedOnStop};
 ghost use Rattle.record_machine.specs.Machine.{Deed, Machine, Write, newest_of};
 ghost use Rattle.store_nodes.specs.declared.node.Node.TheVariants.{Down};
 ghost use Rattle.store_nodes.specs.Causes.{IsLogReply};
+ghost use Rattle.store_nodes.specs.Endures.{Endures};
 ghost use Rattle.store_nodes.specs.Nodes.{IsPlace, IsStore, OnUp, is_up, node_at};
 ghost use Rattle.store_nodes.specs.Ports.{HasCause, IsQuiet, IsReady, IsStopReply, Works, Writes, says_stop};
 ghost use Rattle.store_nodes.specs.Shows.{IsShown};
@@ -55,6 +58,8 @@ fn find_update<D: Disk>(
     ensures foreign { IsTrue D.told → KeepsForeign cache.now.node.0 (D.state disk.old).block (D.state disk.new).block }
     ensures blocks { IsTrue D.told → StaysLive result ((D.state disk.new).block ≡ (D.state disk.old).block) }
     ensures still { IfErr result (λ fault. OnStop fault (IsTrue D.told → IsFreeRegion (region cache.now.log) cache.now.node.0 (D.state disk.old).block → IsStill (region cache.now.log) (D.state disk.new).block)) }
+    ensures cut { IfErr result (λ fault. OnStop fault (IsTrue D.told → IsFreeRegion (region cache.now.log) cache.now.node.0 (D.state disk.old).block → (recs : List LogRecord) → HasRecords cache.now.log (D.state disk.old).block recs
+        → IsCutLog (region cache.now.log) cache.now.log.start cache.now.log.stable (D.state disk.new).block (map record_text recs))) }
     ensures within { IfOk result (λ o. IfSome o (λ u. IsWithin seats.now seat u.0)) }
     ensures behind { IfOk result (λ o. IfSome o (λ u. IfSome after (λ number. u.0 < number))) }
     ensures low { IfOk result (λ o. IfSome o (λ u. u.0 < 6 * 2 ^ 56)) }
@@ -124,6 +129,7 @@ pub fn update_after<D: Disk, V: Disk>(
     ensures left { after ≡ None → IfOk result (λ o. OnUp (node_at store.old.nodes t.node.0) (λ c seats. (u : OpenTxn) → txn_in seats t.seat ≡ Some u → MatchOption o (u.left ≡ 0) (λ found. 1 ≤ u.left))) }
     ensures found { IfOk result (λ o. IsTrue D.told → OnUp (node_at store.old.nodes t.node.0) (λ c seats. (recs : List LogRecord) (u : OpenTxn) (before : List ℕ) → txn_in seats t.seat ≡ Some u → HasRecords c.log (D.state disk.old).block recs → AreTold seats c.log.start recs
         → IsLeftAfter u.begin (6 * c.log.start) recs after before → IsNextAfter u.begin (6 * c.log.start) recs before o)) }
+    ensures led { IfErr result (λ why. IsTrue D.told → (m : Machine) → Endures store.old (D.state disk.old).block m → LedOnStop t.node.0 why [] m (Endures store.new (D.state disk.new).block)) }
     ensures stopped { IfErr result (λ why. IsTrue D.told → (m : Machine) → IsShown store.old (D.state disk.old).block m → IfSome after (IsNumberOf m t) → IsStopReply t.node.0 why) }
     ensures next { IfOk result (λ o. IsTrue D.told → (m : Machine) → IsShown store.old (D.state disk.old).block m → IfSome after (IsNumberOf m t) → IfSome o (λ u. IsNumberOf m t u.0)) }
     ensures newest { after ≡ None → IfOk result (λ o. IsTrue D.told → (m : Machine) → IsShown store.old (D.state disk.old).block m → MatchOption o (newest_of m t ≡ None) (λ u. (d : Deed) × (w : Write) × (newest_of m t ≡ Some d) × (d.write ≡ Some w) × (w.page ≡ u.1.0))) }
@@ -163,6 +169,7 @@ fn count_left<D: Disk, V: Disk>(
     ensures few { IfOk result (λ count. count ≤ 6 * 2 ^ 56) }
     ensures count { IfOk result (λ count. IsTrue D.told → OnUp (node_at store.old.nodes t.node.0) (λ c seats. (recs : List LogRecord) (u : OpenTxn) → txn_in seats t.seat ≡ Some u → HasRecords c.log (D.state disk.old).block recs → AreTold seats c.log.start recs
         → count ≡ left_on u.begin (6 * c.log.start) recs x.0)) }
+    ensures led { IfErr result (λ why. IsTrue D.told → (m : Machine) → Endures store.old (D.state disk.old).block m → LedOnStop t.node.0 why [] m (Endures store.new (D.state disk.new).block)) }
     ensures stopped { IfErr result (λ why. IsTrue D.told → (m : Machine) → IsShown store.old (D.state disk.old).block m → IsStopReply t.node.0 why) }
 {
     let mut count = 0;
@@ -220,6 +227,7 @@ pub fn test_room<D: Disk, V: Disk>(
     ensures kept { IfErr result (λ why. says_stop why ≡ false → (store.new ≡ store.old) × (IsTrue D.told → (D.state disk.new).block ≡ (D.state disk.old).block)) }
     ensures same { OnOk result ((store.new ≡ store.old) × (IsTrue D.told → (D.state disk.new).block ≡ (D.state disk.old).block)) }
     ensures room { OnOk result (IsTrue D.told → HasRoomFor store.old (D.state disk.old).block t x) }
+    ensures led { IfErr result (λ why. IsTrue D.told → (m : Machine) → Endures store.old (D.state disk.old).block m → LedOnStop t.node.0 why [] m (Endures store.new (D.state disk.new).block)) }
     ensures stopped { IfErr result (λ why. IsTrue D.told → (m : Machine) → IsShown store.old (D.state disk.old).block m → IsStopReply t.node.0 why) }
 {
     let ident = data_ident(store, t.node, x);

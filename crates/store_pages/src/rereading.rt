@@ -1,13 +1,15 @@
 //! The block of a page that a node may have cached is read again.
 
-ghost use Rattle.std.specs.Prelude.{◌≡◌, ◌&&◌, ◌<◌, true, false, not, IsTrue, IfErr, OnOk};
+ghost use Rattle.std.specs.Prelude.{◌≡◌, ◌&&◌, ◌<◌, [], true, false, not, IsTrue, IfErr, OnOk};
 ghost use Rattle.sd_base.specs.Calls.{Narrows};
 ghost use Rattle.sd_base.specs.Shape.{page_count};
 ghost use Rattle.private_log.specs.Reading.{contents};
 ghost use Rattle.node_cache.specs.Cache.{is_cached, is_changed};
+ghost use Rattle.record_machine.specs.Led.{LedOnStop};
 ghost use Rattle.record_machine.specs.Machine.{Machine};
 ghost use Rattle.store_nodes.specs.declared.node.Node.TheVariants.{Down};
 ghost use Rattle.store_nodes.specs.Causes.{IsFaultOfPage, IsToldOfPages};
+ghost use Rattle.store_nodes.specs.Endures.{Endures};
 ghost use Rattle.store_nodes.specs.Nodes.{IsPlace, OnUp, is_up, node_at};
 ghost use Rattle.store_nodes.specs.Ports.{HasCause, IsQuiet, IsReady, IsStopReply, Works, Writes, says_stop};
 ghost use Rattle.store_nodes.specs.Shows.{IsShown};
@@ -63,6 +65,7 @@ pub fn reread<D: Disk, V: Disk>(
     ensures down { IfErr result (λ why. says_stop why ≡ true → node_at store.new.nodes n.0 ≡ Down) }
     ensures kept { IfErr result (λ why. says_stop why ≡ false → (store.new ≡ store.old) × (IsTrue D.told → (D.state disk.new).block ≡ (D.state disk.old).block)) }
     ensures same { OnOk result ((store.new ≡ store.old) × (IsTrue D.told → (D.state disk.new).block ≡ (D.state disk.old).block)) }
+    ensures led { IfErr result (λ why. IsTrue D.told → (m : Machine) → Endures store.old (D.state disk.old).block m → LedOnStop n.0 why [] m (Endures store.new (D.state disk.new).block)) }
     ensures stopped { OnUp (node_at store.old.nodes n.0) (λ c seats. IsTrue (is_cached x c) × (is_changed x c ≡ false)) → IfErr result (λ why. IsTrue D.told → (m : Machine) → IsShown store.old (D.state disk.old).block m → IsStopReply n.0 why) }
 {
     let fault = match &mut store.nodes[place(n)] {

@@ -1,13 +1,15 @@
 //! A node gives up a page that it has, for another one to take.
 
-ghost use Rattle.std.specs.Prelude.{◌≡◌, ◌≢◌, ◌<◌, true, IsTrue, IfErr, OnErr, OnOk, slice_set};
+ghost use Rattle.std.specs.Prelude.{◌≡◌, ◌≢◌, ◌<◌, [], true, false, IsTrue, IfErr, MatchResult, OnErr, OnOk, slice_set};
 ghost use Rattle.sd_base.specs.Calls.{Narrows};
 ghost use Rattle.sd_base.specs.Shape.{page_count};
 ghost use Rattle.page_owner.specs.declared.owners.Own.TheVariants.{Nobody};
 ghost use Rattle.page_owner.specs.Owners.{owner_of};
+ghost use Rattle.record_machine.specs.Led.{LedErr};
 ghost use Rattle.record_machine.specs.Machine.{Machine};
 ghost use Rattle.record_machine.specs.Parts.{Drop, one};
 ghost use Rattle.store_nodes.specs.declared.node.Node.TheVariants.{Down};
+ghost use Rattle.store_nodes.specs.Endures.{Endures};
 ghost use Rattle.store_nodes.specs.Footprint.{KeepsPage};
 ghost use Rattle.store_nodes.specs.Halting.{Halts};
 ghost use Rattle.store_nodes.specs.Nodes.{IsHeldBy, IsPlace, OnUp, is_up, node_at};
@@ -49,6 +51,7 @@ pub(crate) fn surrender<D: Disk, V: Disk>(
     ensures given { OnOk result (OnUp (node_at store.old.nodes h.0) (λ c old. OnUp (node_at store.new.nodes h.0) (λ d new. GivesUp x c d))) }
     ensures pages { OnOk result (IsTrue D.told → (y : PageNo) → y.0 < page_count store.old.shape → y ≢ x → KeepsPage store.old.shape y (D.state disk.old).block (D.state disk.new).block) }
     ensures shows { OnOk result (IsTrue D.told → (m : Machine) → IsShown store.old (D.state disk.old).block m → IsShown store.new (D.state disk.new).block (one (Drop x.0) m)) }
+    ensures led { IsTrue D.told → (m : Machine) → m.reopening ≡ false → Endures store.old (D.state disk.old).block m → MatchResult result (λ _. Endures store.new (D.state disk.new).block (one (Drop x.0) m)) (λ why. LedErr h.0 why [] m (Endures store.new (D.state disk.new).block)) }
 {
     let fault = match &mut store.nodes[place(h)] {
         Node::Up(cache, _seats) => {

@@ -1,4 +1,4 @@
-use Rattle.std.specs.Prelude.{◌≡◌, ◌≢◌, ◌==◌, ◌*◌, ◌+◌, ◌^◌, ◌<◌, true, false, List, None, Some, IfSome, cond, refl}
+use Rattle.std.specs.Prelude.{◌≡◌, ◌≢◌, ◌==◌, ◌*◌, ◌+◌, ◌^◌, ◌<◌, [], true, false, List, None, Some, IfSome, cond, refl}
 use Rattle.std.proofs.Common.{arith, ap, subst, sym, ◌∙◌}
 use Rattle.std.proofs.lemmas.Bool.{eq-eqb}
 use Rattle.std.proofs.lemmas.Bool.Decides.{nat_tests}
@@ -6,7 +6,9 @@ use Rattle.private_log.specs.Content.{region_of}
 use Rattle.log_record.specs.declared.record.LogRecord.{LogRecord}
 use Rattle.txn_core.specs.Seats.{OpenTxn, txn_in}
 use Rattle.txn_core.specs.Told.{AreTold, HasRecords}
+use Rattle.record_machine.specs.Led.{LedOnStop}
 use Rattle.store_nodes.specs.Causes.{IsLogReply}
+use Rattle.store_nodes.specs.Endures.{Endures}
 use Rattle.store_nodes.specs.Nodes.{OnUp, node_at}
 use Rattle.store_nodes.specs.Ports.{HasCause, IsQuiet, IsStopReply, Writes, says_stop}
 use Rattle.store_nodes.specs.Shows.{IsShown}
@@ -108,6 +110,11 @@ pub returns-in_err-number-clause-stopped : goal.returns-in_err-number-clause-sto
 returns-in_err-number-clause-stopped g c = passed_on c.from_residual.result _ _ c.from_residual.ensures.1 (λ why same told m shown.
     let now = subst (λ k. IsShown k (g.D.Disk.state c.loop-number.disk).block m) (sym c.loop-number.invariant.store) (subst (λ b. IsShown c.args.store.now b m) (sym (c.loop-number.invariant.blocks told)) shown) in
     subst (IsStopReply c.args.t.node.0) (sym same) (c.in_err-number.ensures.stopped told m now (c.loop-number.invariant.number told m shown)))
+
+pub returns-in_err-number-clause-led : goal.returns-in_err-number-clause-led
+returns-in_err-number-clause-led g c = passed_on c.from_residual.result _ _ c.from_residual.ensures.1 (λ why same told m was.
+    let now = subst (λ k. Endures k (g.D.Disk.state c.loop-number.disk).block m) (sym c.loop-number.invariant.store) (subst (λ b. Endures c.args.store.now b m) (sym (c.loop-number.invariant.blocks told)) was) in
+    subst (λ r. LedOnStop c.args.t.node.0 r [] m (Endures c.update_after.new.store (g.D.Disk.state c.update_after.new.disk).block)) (sym same) (c.in_err-number.ensures.led told m now))
 
 -- ---- where all are counted
 

@@ -1,9 +1,11 @@
-use Rattle.std.specs.Prelude.{◌≡◌, ◌+◌, ◌^◌, ◌<◌, ◌≤◌, true, false}
+use Rattle.std.specs.Prelude.{◌≡◌, ◌+◌, ◌^◌, ◌<◌, ◌≤◌, [], true, false}
 use Rattle.std.proofs.Common.{arith, inl, inr, ap, subst, sym, ◌∙◌}
 use Rattle.private_log.specs.Content.{region_of}
 use Rattle.script_text.specs.declared.reply.Reply.TheVariants as says
 use Rattle.state_ids.specs.Blocks.{page_place}
+use Rattle.record_machine.specs.Led.{LedOnStop}
 use Rattle.store_nodes.specs.Causes.{IsLogReply}
+use Rattle.store_nodes.specs.Endures.{Endures}
 use Rattle.store_nodes.specs.Ports.{HasCause, IsStopReply, says_stop}
 use Rattle.store_pages.proofs.Results.{passed_on}
 use Rattle.store_pages.proofs.Sequences.{works_none, writes_none}
@@ -44,6 +46,10 @@ returns-in_err-count-clause-kept g c = passed_on c.from_residual.result _ _ c.fr
 pub returns-in_err-count-clause-stopped : goal.returns-in_err-count-clause-stopped
 returns-in_err-count-clause-stopped g c =
     passed_on c.from_residual.result _ _ c.from_residual.ensures.1 (λ why same told m shown. subst (IsStopReply c.args.t.node.0) (sym same) (c.in_err-count.ensures.stopped told m shown))
+
+pub returns-in_err-count-clause-led : goal.returns-in_err-count-clause-led
+returns-in_err-count-clause-led g c =
+    passed_on c.from_residual.result _ _ c.from_residual.ensures.1 (λ why same told m was. subst (λ r. LedOnStop c.args.t.node.0 r [] m (Endures c.count_left.new.store (g.D.Disk.state c.count_left.new.disk).block)) (sym same) (c.in_err-count.ensures.led told m was))
 
 -- ---- where there is no room for them
 

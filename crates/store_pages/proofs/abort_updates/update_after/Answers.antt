@@ -1,25 +1,31 @@
-use Rattle.std.specs.Prelude.{◌≡◌, ◌*◌, ◌<◌, true, false, None, Some, IsTrue, IfSome, MatchOption, length, slice_set, refl}
+use Rattle.std.specs.Prelude.{◌≡◌, ◌*◌, ◌<◌, [], true, false, None, Some, IsTrue, IfSome, MatchOption, length, slice_set, refl}
 use Rattle.std.proofs.Common.{arith, ap, subst, sym, ◌∙◌, length-set}
 use Rattle.sd_base.specs.Faults.{IsStopOf}
 use Rattle.sd_base.specs.Shape.{first_page}
 use Rattle.private_log.specs.Content.{region_of}
+use Rattle.private_log.specs.Log.{region}
+use Rattle.private_log.specs.Reading.{IsLogFault}
 use Rattle.compensation.specs.Left.{uncompensated}
 use Rattle.state_ids.specs.Blocks.{UnlessStopped}
 use Rattle.txn_core.specs.Seats.{is_busy}
 use Rattle.txn_core.proofs.SeatLaws.{txn_of}
+use Rattle.record_machine.specs.Led.{LedOnStop}
 use Rattle.record_machine.specs.Machine.{Deed, Write, newest_of}
 use Rattle.store_nodes.specs.declared.node.Node.TheVariants.{Down, Up}
 use Rattle.store_nodes.specs.Causes.{IsLogReply}
+use Rattle.store_nodes.specs.Endures.{Endures, MayHalt, MayHaltAs}
 use Rattle.store_nodes.specs.Nodes.{OnUp, node_at}
 use Rattle.store_nodes.specs.Ports.{IsReady, IsStopReply, Works, Writes, says_stop}
 use Rattle.store_nodes.specs.Shows.{ShowsNode}
 use Rattle.store_pages.specs.Updates.{IsLeftAfter, IsNumberOf, IsWithin}
+use Rattle.store_nodes.proofs.Broken.{broke_here, no_unlock, of_stop}
 use Rattle.store_nodes.proofs.Eight.{at_same}
 use Rattle.store_pages.proofs.FoundWrites.{found_first, found_number, found_range, left_after}
 use Rattle.store_nodes.proofs.LeftWrites.{numbers_back}
 use Rattle.store_nodes.proofs.LogReplies.{log_says, stop_says, unless_live, unless_stopped, where_live, where_stopped}
 use Rattle.store_nodes.proofs.Logs as logs
 use Rattle.store_pages.proofs.LogReads.{block_cause, block_says, block_stays, but_read, quiet_but_read, quiet_read, ready_read, store_read, works_read}
+use Rattle.store_pages.proofs.ReadEndures.{block_led, led_on_stop, log_shown, log_stop, read_halts}
 use Rattle.store_pages.proofs.Results.{err_then, never, no_err, ok_then, on_ok}
 use Rattle.store_pages.proofs.Sequences.{writes_none}
 use Rattle.store_pages.proofs.abort_updates.update_after.Goals as goal
@@ -184,6 +190,32 @@ returns-clause-stopped g c = λ told m shown some.
     let it = left_after n s pool k seats a p m c.args.t u.0 mine shown.1.nodes.means.logs refl low u.1 c.args.after some in
     subst (IsStopReply n) (sym c.give_up.ensures.says) (stop_says n (first_page s) c.in-Err.fault (subst (λ j. IsStopOf j c.in-Err.fault) work.number (c.in-Err.ensures.there told (p.live n) u.0 (numbers_back it.0) u.1 mine.records mine.told it.3)))
 
+pub returns-clause-led : goal.returns-clause-led
+returns-clause-led g c = λ told m was.
+    let me = c.args.store.now in
+    let s = me.shape in
+    let n = c.args.t.node.0 in
+    let i = c.place.result in
+    let k = c.in-Up.cache in
+    let seats = c.in-Up.seats in
+    let is = c.requires.ready.is in
+    let up = logs.up_at me n i c.index-store-place.result k seats is c.requires.node c.place.ensures.is c.in-Up.is in
+    let a = (g.D.Disk.state c.args.disk.now).block in
+    let b2 = (g.D.Disk.state c.give_up.new.disk).block in
+    let f = c.in-Err.fault in
+    let p = was.0 in
+    let free = logs.region_free me n i k k seats seats is c.requires.node c.place.ensures.is up a (c.requires.quiet told) in
+    let number = (logs.work me n i k k seats seats is c.requires.node c.place.ensures.is up).number in
+    subst (λ why. LedOnStop n why [] m (Endures c.give_up.new.self b2)) (sym c.give_up.ensures.says)
+    (led_on_stop n (first_page s) f [] m (Endures c.give_up.new.self b2) (log_stop (region k.log) n f (subst (λ j. IsLogFault (region k.log) j f) number c.in-Err.ensures.fault)) (λ stop.
+    let halts : MayHalt n (record { shape = s; shared = me.shared; nodes = slice_set me.nodes i (Up k seats) }) b2 m = (
+      p,
+      logs.there me n i k k seats seats is c.requires.node c.place.ensures.is up (λ os. MayHaltAs n (record { shape = s; shared = me.shared; nodes = os }) b2 p m)
+          (read_halts me n i k seats is c.requires.node c.place.ensures.is up a p m was.1 (g.D.Disk.state c.find_update.new.disk).block b2 (c.requires.quiet told) (c.find_update.ensures.outcomes told) (c.find_update.ensures.foreign told) (c.give_up.ensures.outcomes told) (c.give_up.ensures.foreign told)
+          (of_stop n f _ stop c.in-Err.ensures.still told free) (of_stop n f _ stop c.in-Err.ensures.cut told free (p.live n) (log_shown me n i k seats is c.requires.node c.place.ensures.is up a p m was.1))),
+    ) in
+    broke_here n [] 0 m (Endures c.give_up.new.self b2) (no_unlock [] refl) (of_stop n f _ stop c.give_up.ensures.led told m halts)))
+
 -- ---- where the log was read
 
 pub returns-in-Ok-clause-works : goal.returns-in-Ok-clause-works
@@ -254,6 +286,9 @@ returns-in-Ok-clause-kept g c =
     let is = c.requires.ready.is in
     let up = logs.up_at me n i c.index-store-place.result k seats is c.requires.node c.place.ensures.is c.in-Up.is in
     err_then c.of_store.result _ _ c.of_store.ensures.fault (λ why fault live. (store_read me n i k seats is c.requires.node c.place.ensures.is up, λ told. c.in-Ok.ensures.blocks told))
+
+pub returns-in-Ok-clause-led : goal.returns-in-Ok-clause-led
+returns-in-Ok-clause-led g c = err_then c.of_store.result _ _ c.of_store.ensures.fault (λ why is told m was. block_led c.args.t.node.0 (region_of c.args.store.now.shape c.args.t.node.0) why [] m _ is)
 
 pub returns-in-Ok-clause-same : goal.returns-in-Ok-clause-same
 returns-in-Ok-clause-same g c =

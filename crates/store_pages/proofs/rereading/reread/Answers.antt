@@ -1,22 +1,26 @@
-use Rattle.std.specs.Prelude.{◌≡◌, true, false, IsTrue, length, slice_set, refl}
+use Rattle.std.specs.Prelude.{◌≡◌, [], true, false, IsTrue, length, slice_set, refl}
 use Rattle.std.proofs.Common.{inr, ap, subst, sym, ◌∙◌, length-set}
 use Rattle.sd_base.specs.Faults.{IsStopOf}
 use Rattle.sd_base.specs.Shape.{first_page}
 use Rattle.page_owner.specs.declared.owners.Own.TheVariants.{Out}
 use Rattle.page_owner.specs.Owners.{owner_of}
 use Rattle.private_log.specs.Reading.{contents}
-use Rattle.state_ids.specs.Blocks.{UnlessStopped, page_place}
+use Rattle.state_ids.specs.Blocks.{IsPageFault, UnlessStopped, page_place}
 use Rattle.node_cache.specs.Cache.{is_cached, is_changed}
 use Rattle.node_cache.specs.Room.{IsOpenTo}
 use Rattle.store_nodes.specs.declared.node.Node.TheVariants.{Down, Up}
 use Rattle.store_nodes.specs.Causes.{IsFaultOfPage, IsToldOfPages}
+use Rattle.record_machine.specs.Led.{LedOnStop}
+use Rattle.store_nodes.specs.Endures.{Endures, MayHalt, MayHaltAs}
 use Rattle.store_nodes.specs.Nodes.{OnUp, node_at}
 use Rattle.store_nodes.specs.Ports.{IsReady, IsStopReply, Works, Writes, reply_to, says_stop}
+use Rattle.store_nodes.proofs.Broken.{broke_here, no_unlock, of_stop}
 use Rattle.store_nodes.proofs.Eight.{at_same}
 use Rattle.store_nodes.proofs.LogReplies.{stop_says, unless_live, unless_stopped, where_live, where_stopped}
 use Rattle.store_nodes.proofs.Logs as logs
 use Rattle.store_pages.proofs.LogReads.{but_read, quiet_but_read, quiet_read, ready_read, store_read, works_read}
 use Rattle.store_pages.proofs.PageReplies.{fault_says, told_says, unless_then}
+use Rattle.store_pages.proofs.ReadEndures.{led_on_stop, log_shown, page_stop, read_halts}
 use Rattle.store_pages.proofs.Sequences.{writes_none}
 use Rattle.store_pages.proofs.ShownTaken.{settled_clean}
 use Rattle.store_pages.proofs.rereading.reread.Goals as goal
@@ -164,6 +168,34 @@ returns-clause-stopped g c = λ clean told m shown.
     let settled = settled_clean me c.args.n c.args.x k seats is c.requires.node up free here.1 in
     let found = shown.1.nodes.stored c.args.x c.requires.page settled (a (page_place me.shape c.args.x)).current (g.met.D.Disk.lawful c.args.disk.now (page_place me.shape c.args.x) told).current in
     subst (IsStopReply n) (sym c.give_up.ensures.says) (stop_says n (first_page me.shape) c.in-Err.fault (subst (λ j. IsStopOf j c.in-Err.fault) work.number (c.in-Err.ensures.there told found.0 found.1)))
+
+pub returns-clause-led : goal.returns-clause-led
+returns-clause-led g c = λ told m was.
+    let me = c.args.store.now in
+    let s = me.shape in
+    let n = c.args.n.0 in
+    let i = c.place.result in
+    let k = c.in-Up.cache in
+    let seats = c.in-Up._seats in
+    let is = c.requires.ready.is in
+    let up = logs.up_at me n i c.index-store-place.result k seats is c.requires.node c.place.ensures.is c.in-Up.is in
+    let a = (g.D.Disk.state c.args.disk.now).block in
+    let b = (g.D.Disk.state c.reread.new.disk).block in
+    let b2 = (g.D.Disk.state c.give_up.new.disk).block in
+    let f = c.in-Err.fault in
+    let p = was.0 in
+    let free = logs.region_free me n i k k seats seats is c.requires.node c.place.ensures.is up a (c.requires.quiet told) in
+    let number = (logs.work me n i k k seats seats is c.requires.node c.place.ensures.is up).number in
+    let recs = (log_shown me n i k seats is c.requires.node c.place.ensures.is up a p m was.1).on in
+    subst (λ why. LedOnStop n why [] m (Endures c.give_up.new.self b2)) (sym c.give_up.ensures.says)
+    (led_on_stop n (first_page s) f [] m (Endures c.give_up.new.self b2) (page_stop s c.args.x n f (subst (λ j. IsPageFault s c.args.x j f) number c.in-Err.ensures.fault)) (λ stop.
+    let halts : MayHalt n (record { shape = s; shared = me.shared; nodes = slice_set me.nodes i (Up k seats) }) b2 m = (
+      p,
+      logs.there me n i k k seats seats is c.requires.node c.place.ensures.is up (λ os. MayHaltAs n (record { shape = s; shared = me.shared; nodes = os }) b2 p m)
+          (read_halts me n i k seats is c.requires.node c.place.ensures.is up a p m was.1 b b2 (c.requires.quiet told) (c.reread.ensures.outcomes told) (c.reread.ensures.foreign told) (c.give_up.ensures.outcomes told) (c.give_up.ensures.foreign told)
+          (of_stop n f _ stop (c.in-Err.ensures.still told free)) (of_stop n f _ stop (c.in-Err.ensures.cut told free _ recs))),
+    ) in
+    broke_here n [] 0 m (Endures c.give_up.new.self b2) (no_unlock [] refl) (of_stop n f _ stop c.give_up.ensures.led told m halts)))
 
 -- ---- where the block was read
 

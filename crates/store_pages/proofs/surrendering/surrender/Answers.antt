@@ -1,8 +1,17 @@
-use Rattle.std.specs.Prelude.{◌≡◌, ◌<◌, ◌≤◌, [], true, None, refl, length, slice_set}
+use Rattle.std.specs.Prelude.{◌≡◌, ◌<◌, ◌≤◌, [], true, None, refl, length, map, slice_set}
 use Rattle.std.specs.List.{cons_option}
 use Rattle.std.proofs.Common.{arith, inr, ap, subst, subst₂, sym, ◌∙◌, length-set}
 use Rattle.sd_base.specs.Disk.{IsFreeFor}
-use Rattle.sd_base.specs.Shape.{page_count}
+use Rattle.record_machine.specs.Led.{LedErr}
+use Rattle.sd_base.specs.Faults.{IsStopOf}
+use Rattle.sd_base.specs.declared.names.PageNo.{PageNo}
+use Rattle.sd_base.specs.Shape.{first_page, page_count}
+use Rattle.log_record.specs.Text.{record_text}
+use Rattle.state_ids.specs.Held.{Shows}
+use Rattle.store_nodes.specs.Endures.{Endures, EnduresAs, MayHalt, MayHaltAs, with_held}
+use Rattle.store_nodes.proofs.Broken.{broke_here, led_fault, no_unlock, of_stop}
+use Rattle.store_pages.proofs.GivenEndures.{found_cached, given_endures}
+use Rattle.store_pages.proofs.PagedEndures.{paged_halts}
 use Rattle.page_owner.specs.declared.owners.Own.TheVariants.{Nobody}
 use Rattle.page_owner.specs.Owners.{owner_of}
 use Rattle.state_ids.specs.Blocks.{page_place}
@@ -14,7 +23,7 @@ use Rattle.record_machine.proofs.RestSteps.{means_dropped}
 use Rattle.store_nodes.specs.declared.node.Node.TheVariants.{Down, Up}
 use Rattle.store_nodes.specs.Nodes.{AreApart, IsAtWork, IsStoreButOf, IsStoreOf, KeepsFramesBut, OnUp, node_at, pages_of, with_node}
 use Rattle.store_nodes.specs.Pages.{GivesUp}
-use Rattle.store_nodes.specs.Shows.{ShowsNode, ShowsStoreOf, holder}
+use Rattle.store_nodes.specs.Shows.{ShowsNode, ShowsStoreOf, holder, image_in}
 use Rattle.store_nodes.proofs.Eight.{at_same}
 use Rattle.store_nodes.proofs.Holders.{holder_set, put_at}
 use Rattle.store_nodes.proofs.Living.{living}
@@ -170,6 +179,28 @@ returns-in-Ok-clause-shows g c = λ told m shown_by.
       },
     )
 
+pub returns-in-Ok-clause-led : goal.returns-in-Ok-clause-led
+returns-in-Ok-clause-led g c = λ told m unlost was.
+    let me = c.args.store.now in
+    let s = me.shape in
+    let n = c.args.h.0 in
+    let x = c.args.x in
+    let is = c.requires.ready.is in
+    let up = up_of g c in
+    let k = c.in-Up.cache in
+    let d = c.surrender-done.new.self in
+    let done = c.surrender-done in
+    let seats = c.in-Up._seats in
+    let a = (g.D.Disk.state c.args.disk.now).block in
+    let b = (g.D.Disk.state done.new.disk).block in (
+      was.0,
+      subst (λ own. EnduresAs (record { shape = s; shared = record { pool = done.new.pool; owners = own; locks = me.shared.locks; reopening = me.shared.reopening }; nodes = slice_set me.nodes c.place.result (Up d seats) }) b was.0 (one (Drop x.0) m)) (sym c.in-Ok.ensures.owners)
+          (logs.there me n c.place.result k d seats seats is c.requires.node c.place.ensures.is up (λ os. EnduresAs (record { shape = s; shared = record { pool = done.new.pool; owners = slice_set me.shared.owners x.0 Nobody; locks = me.shared.locks; reopening = me.shared.reopening }; nodes = os }) b was.0 (one (Drop x.0) m))
+          (given_endures me c.args.h x c.place.result k d seats is c.requires.node c.place.ensures.is up done.new.pool a b was.0 m was.1 c.requires.held c.requires.page (frames_of g c) c.in-Ok.ensures.pool c.in-Ok.ensures.pages done.ensures.same (c.in-Ok.ensures.log told)
+          (calls.logs_paged me n c.place.result k d seats is c.requires.node c.place.ensures.is up a b (cons_option (page_at x k.pages) []) (done.ensures.foreign told) (c.requires.quiet told))
+          unlost (done.ensures.outcomes told) (done.ensures.foreign told) (c.requires.quiet told) (c.in-Ok.ensures.holds told) (λ same. ap (λ v. (g.D.Disk.state v).block) (done.ensures.idle same)) c.in-Ok.ensures.stable_kept c.in-Ok.ensures.stable)),
+    )
+
 -- ---- where it gives up
 
 pub give_up-requires-clause-is : goal.give_up-requires-clause-is
@@ -231,3 +262,42 @@ returns-clause-down g c =
     let n = c.args.h.0 in
     let nodes : c.give_up.new.self.nodes ≡ with_node (slice_set me.nodes c.place.result (Up c.surrender-done.new.self c.in-Up._seats)) n Down = (calls.on_stop c.in-Up.cache.node.0 c.in-Err.fault _ c.in-Err.ensures.fault c.give_up.ensures.halts).nodes in
     ap (λ os. node_at os n) nodes ∙ at_same (slice_set me.nodes c.place.result (Up c.surrender-done.new.self c.in-Up._seats)) n Down (length-set me.nodes c.place.result _ ∙ c.requires.ready.is.shared.eight) c.requires.node
+
+pub returns-clause-led : goal.returns-clause-led
+returns-clause-led g c = λ told m unlost was.
+    let me = c.args.store.now in
+    let s = me.shape in
+    let n = c.args.h.0 in
+    let x = c.args.x in
+    let i = c.place.result in
+    let is = c.requires.ready.is in
+    let k = c.in-Up.cache in
+    let d = c.surrender-done.new.self in
+    let done = c.surrender-done in
+    let seats = c.in-Up._seats in
+    let up = logs.up_at me n i c.index-store-place.result k seats is c.requires.node c.place.ensures.is c.in-Up.is in
+    let a = (g.D.Disk.state c.args.disk.now).block in
+    let b = (g.D.Disk.state done.new.disk).block in
+    let b2 = (g.D.Disk.state c.give_up.new.disk).block in
+    let new = c.give_up.new.self in
+    let p = was.0 in
+    let e = was.1 in
+    let m1 = with_held e.held m in
+    let work = logs.work me n i k k seats seats is c.requires.node c.place.ensures.is up in
+    let low = logs.low me n i k k seats seats is c.requires.node c.place.ensures.is up in
+    let mine = subst (λ o. ShowsNode s me.shared.pool n o a p m1) up (e.nodes.node n c.requires.node low) in
+    let stop = subst (λ j. IsStopOf j c.in-Err.fault) work.number c.in-Err.ensures.fault in
+    let after = c.give_up.ensures.works.ready.is in
+    let single : (y : PageNo) → y.0 < page_count s → (b2 (page_place s y)).writer ≡ None = λ y inside. subst (λ z. (b2 (page_place z y)).writer ≡ None) c.give_up.ensures.works.shape (page_still new.shape new.nodes b2 y after.shared.shape (up_most new.shape new.shared.pool new.shared.owners new.nodes after) (c.give_up.ensures.quiet told)) in
+    let halts = paged_halts me n i k d seats is c.requires.node c.place.ensures.is up (cons_option (page_at x k.pages) []) a b p m e (found_cached x k)
+    (calls.all_found (λ q. Shows me.shared.pool q.frame (image_in s p q.ticket.page)) x k.pages mine.1.cached) (calls.all_found (λ q. q.ticket.page.0 < page_count s) x k.pages work.store.pages)
+    (done.ensures.outcomes told) (done.ensures.foreign told) (c.requires.quiet told) b2 (c.give_up.ensures.outcomes told) (c.give_up.ensures.foreign told) (λ j. g.met.D.Disk.lawful c.give_up.new.disk j told) single (c.in-Err.ensures.still told)
+    (c.in-Err.ensures.cut told (map record_text (p.live n)) mine.1.records.on) (done.ensures.ahead told (map record_text (p.live n)) mine.1.records.on) in
+    let there : MayHalt n (record { shape = s; shared = record { pool = done.new.pool; owners = done.new.owners; locks = me.shared.locks; reopening = me.shared.reopening }; nodes = slice_set me.nodes i (Up d seats) }) b2 m = (
+      p,
+      subst₂ (λ pool own. MayHaltAs n (record { shape = s; shared = record { pool = pool; owners = own; locks = me.shared.locks; reopening = me.shared.reopening }; nodes = slice_set me.nodes i (Up d seats) }) b2 p m) (sym c.in-Err.ensures.pool_kept) (sym c.in-Err.ensures.owners_kept)
+          (logs.there me n i k d seats seats is c.requires.node c.place.ensures.is up (λ os. MayHaltAs n (record { shape = s; shared = me.shared; nodes = os }) b2 p m) halts),
+    ) in
+    subst (λ why. LedErr n why [] m (Endures new b2)) (sym c.give_up.ensures.says)
+    (led_fault n (first_page s) c.in-Err.fault [] m (Endures new b2) stop
+    (broke_here n [] 0 m (Endures new b2) (no_unlock [] refl) (of_stop n c.in-Err.fault _ stop c.give_up.ensures.led told m there)))

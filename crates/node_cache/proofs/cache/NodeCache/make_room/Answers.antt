@@ -1,4 +1,4 @@
-use Rattle.std.proofs.Common.{◌≡◌, ◌≢◌, ◌≤◌, ℕ, List, Some, All, AllPairs, length, refl, arith, ap, subst, subst₂, sym, ◌∙◌}
+use Rattle.std.proofs.Common.{◌≡◌, ◌≢◌, ◌≤◌, ℕ, List, Some, All, AllPairs, count_by, length, refl, arith, ap, subst, subst₂, sym, ◌∙◌}
 use Rattle.std.specs.List.{position}
 use Rattle.sd_base.specs.declared.names.PageNo.{PageNo}
 use Rattle.sd_base.specs.declared.shape.Shape.{Shape}
@@ -8,7 +8,7 @@ use Rattle.page_owner.specs.declared.owners.Own.TheVariants.{Out}
 use Rattle.page_owner.specs.Owners.{owner_of}
 use Rattle.private_log.specs.Log.{IsLogOn}
 use Rattle.state_ids.specs.Blocks.{ShowsPage}
-use Rattle.node_cache.specs.Cache.{CachedPage, IsCache, IsTiedToDisk, written_back}
+use Rattle.node_cache.specs.Cache.{CachedPage, IsCache, IsTiedToDisk, has_changes, written_back}
 use Rattle.node_cache.specs.Room.{freed, may_go, parked}
 use Rattle.node_cache.specs.Writes.{AreFree, AreInReach, HoldsPages, KeepsContentsButPages, KeepsForeignButPages, NarrowsButPages}
 use Rattle.node_cache.proofs.Finding.{all_at, got}
@@ -138,3 +138,8 @@ returns-clause-record_tie g c = λ told xs tie.
     let l = leaves c.args.s.now c.args.x _ _ _ _ (ap (λ s. s.pages) c.self.view_is) c.len.ensures c.if-len-lt-MAX_PAGES.false c.leaving_place-i.ensures in
     records_without c.args.s.now c.write_back.new.self c.let_go.new.self (g.D.Disk.state c.write_back.new.disk).block xs c.leaving_place-i.result (got _ _ _ (written_at _ _ _ _ _ l c.in_ok-write_back.ensures.written)).0 c.let_go.ensures.log c.let_go.ensures.pages
     (c.in_ok-write_back.ensures.record_tie told xs tie)
+
+pub returns-clause-stable : goal.returns-clause-stable
+returns-clause-stable g c = λ some.
+    let l = leaves c.args.s.now c.args.x _ _ _ _ (ap (λ s. s.pages) c.self.view_is) c.len.ensures c.if-len-lt-MAX_PAGES.false c.leaving_place-i.ensures in
+    ap (λ m. m.stable) c.let_go.ensures.log ∙ c.in_ok-write_back.ensures.stable (subst (λ ps. 1 ≤ count_by has_changes ps) (sym (range_leaves _ _ _ _ l)) some)
