@@ -23,7 +23,7 @@ use Rattle.record_machine.proofs.Put.{at_or_off}
 use Rattle.store_nodes.specs.declared.node.Node.{Node}
 use Rattle.store_nodes.specs.declared.node.Node.TheVariants.{Up, Down}
 use Rattle.store_nodes.specs.declared.store.Store.{Store}
-use Rattle.store_nodes.specs.Endures.{AreBusy, AreBusyBut, AreClean, AreCleanBut, EnduresButAs, MayHaltAs, with_held}
+use Rattle.store_nodes.specs.Endures.{AreBusy, AreBusyBut, AreClean, AreCleanBut, AreGone, EnduresButAs, MayHaltAs, with_held}
 use Rattle.store_nodes.specs.Nodes.{IsHeldBy, IsPlace, IsStore, KeepsFramesBut, OnUp, OthersStay, is_up, node_at, with_node}
 use Rattle.store_nodes.specs.Shows.{IsHolderUp, IsSettled, ShowsNode, holder}
 use Rattle.store_nodes.specs.Tied.{TiesNode, TiesPage, TiesStill}
