@@ -37,7 +37,7 @@ use Rattle.store_nodes.proofs.Owing.{owed_shown}
 use Rattle.store_nodes.proofs.ShownLogged.{tail_shown}
 use Rattle.store_nodes.proofs.ShownReopening.{reopening_shown}
 use Rattle.store_commands.proofs.Room.{room_shown}
-use Rattle.cluster_core.proofs.Seated.{busy_shown}
+use Rattle.store_nodes.proofs.Seated.{busy_shown}
 use Rattle.cluster_core.proofs.Tests.{first_none, first_one, first_some, tests, tests_are}
 
 -- ---- what else the machine refuses it for

@@ -169,6 +169,12 @@ sealed_survives dirty h p m t rec s busy is rule fits = record {
   stops = subst (MayStop (ended h t.node.0 (s.recoverable.begun t.node.0 t.seat) rec) (one (Seal t) m)) (sym (sealed_begun dirty h p m t rec s.recoverable s.means busy is rule fits)) (sealed_stops dirty h p m t rec s busy is rule fits);
 }
 
+-- the transactions have the numbers that they had
+pub sealed_survives_begun : (dirty : ℕ → Bool) (h : History) (p : Plain) (m : Machine) (t : TxnId) (rec : LogRecord) (s : Survives dirty h p m) (busy : is_busy m t ≡ true) (is : effect_of rec ≡ Ended (s.recoverable.begun t.node.0 t.seat)) (rule : RuleOf (h.devices.first t.node.0) (h.live t.node.0) rec (effect_of rec)) (fits : HasRoom h.devices t.node.0 (h.live t.node.0 ++ rec ∷ []))
+    → (sealed_survives dirty h p m t rec s busy is rule fits).recoverable.begun ≡ s.recoverable.begun
+unfolding sealed_survives
+sealed_survives_begun dirty h p m t rec s busy is rule fits = sealed_begun dirty h p m t rec s.recoverable s.means busy is rule fits
+
 -- ---- which end it is
 
 commit_ends : (b : ℕ) (rec : LogRecord) → IsCommitOf b rec → effect_of rec ≡ Ended b

@@ -30,7 +30,7 @@ use Rattle.recovery_theory.specs.Steps as step
 use Rattle.record_machine.specs.Cuts.{Survives, SurvivesAs}
 use Rattle.record_machine.specs.Machine.{Deed, Idle, Machine, Redone, Up, Write, deeds_of, formatted, free_place, home, is_busy, newest_of, owed, put, seen}
 use Rattle.record_machine.specs.Meaning.{IsChangedAt, IsUsed, Plain, Tells, born, has_written, logged, with_map, with_page}
-use Rattle.record_machine.specs.Parts.{Back, Begin as Begins, Change, Drop, Lock, Seal, Start, Sure, Take, Unlock, Use, one}
+use Rattle.record_machine.specs.Parts.{Back, Begin as Begins, Change, Drop, Lock, Seal, Start, Sure, Take, Unlock, Use, dos, one}
 use Rattle.record_machine.specs.Recoverable.{IsKnown}
 use Rattle.record_machine.specs.Stops.{halted, stop, stop_in_undo}
 
@@ -197,3 +197,12 @@ LockedSurvives = (dirty : ℕ → Bool) (h : History) (p : Plain) (m : Machine) 
     → is_busy m t ≡ true
     → IsTrue (may_take (lock_answer m.locks key t mode))
     → (lock : ℕ → ℕ → Option Transaction) × Survives dirty (step.with_locks h lock) p (one (Lock key t mode) m)
+
+-- A transaction ends, its log is stable, and its locks are released.
+abbrev pub EndedSurvives : Type 0
+EndedSurvives = (dirty : ℕ → Bool) (h : History) (p : Plain) (m : Machine) (t : TxnId) (rec : LogRecord) → (s : Survives dirty h p m)
+    → is_busy m t ≡ true
+    → effect_of rec ≡ Ended (s.recoverable.begun t.node.0 t.seat)
+    → RuleOf (h.devices.first t.node.0) (h.live t.node.0) rec (effect_of rec)
+    → HasRoom h.devices t.node.0 (h.live t.node.0 ++ rec ∷ [])
+    → (lock : ℕ → ℕ → Option Transaction) × Survives dirty (step.with_locks (step.ended h t.node.0 (s.recoverable.begun t.node.0 t.seat) rec) lock) (logged t.node.0 rec p) (dos (Seal t ∷ Unlock t ∷ []) m)

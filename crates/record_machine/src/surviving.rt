@@ -3,7 +3,7 @@
 ghost use Rattle.std.specs.Prelude.{ℕ, Bool, List, Option, ◌≡◌};
 ghost use Rattle.record_locks.specs.Held.{Held};
 ghost use Rattle.recovery_theory.specs.History.{History};
-ghost use Rattle.record_machine.specs.CutParts.{AbortedSurvives, BackSurvives, BegunSurvives, ChangedSurvives, CommittedSurvives, DroppedSurvives, ForcedSurvives, FormattedSurvives, LockedSurvives, StartedSurvives, StoppedInUndo, StoppedSurvives, StoppedWithTables, SureSurvives, TakenSurvives, UnlockedSurvives, UsedSurvives, WrittenSurvives};
+ghost use Rattle.record_machine.specs.CutParts.{AbortedSurvives, BackSurvives, BegunSurvives, ChangedSurvives, CommittedSurvives, DroppedSurvives, EndedSurvives, ForcedSurvives, FormattedSurvives, LockedSurvives, StartedSurvives, StoppedInUndo, StoppedSurvives, StoppedWithTables, SureSurvives, TakenSurvives, UnlockedSurvives, UsedSurvives, WrittenSurvives};
 ghost use Rattle.record_machine.specs.Cuts.{Survives, SurvivesAs};
 ghost use Rattle.record_machine.specs.Machine.{LooseChange, Machine};
 ghost use Rattle.record_machine.specs.Meaning.{Plain};
@@ -47,6 +47,8 @@ pub fn law_of_surviving_stores()
     // A transaction ends: by a commit, or by an abort that has taken all back.
     ensures committed { CommittedSurvives }
     ensures aborted { AbortedSurvives }
+    // So it does where its locks are released then.
+    ensures ended { EndedSurvives }
 {}
 
 /// Who holds a page and what is loose are functions. Where two machines differ in nothing else, and agree on

@@ -9,6 +9,7 @@ use Rattle.sd_base.specs.Faults.{IsStopOf, OnStop}
 use Rattle.record_machine.specs.Led.{Broke, LedErr, is_unlock}
 use Rattle.record_machine.specs.Machine.{Machine}
 use Rattle.record_machine.specs.Parts.{Part, dos}
+use Rattle.store_format.specs.FaultReply.{fault_reply}
 use Rattle.store_nodes.specs.Endures.{Stops}
 use Rattle.store_nodes.specs.Ports.{reply_to}
 
@@ -31,9 +32,23 @@ led_fault n first (Failed h) ps m S is broke = subst (λ k. Broke n k ps m S) (s
 led_fault n first (Lost at) ps m S is broke = absurd is
 led_fault n first (Damaged at) ps m S is broke = absurd is
 
+-- also where a block that is no page was read
+pub led_read : (n : ℕ) (fault : DevFault) (ps : List Part) (m : Machine) (S : Machine → Type 0) → IsStopOf n fault → Broke n n ps m S → LedErr n (fault_reply fault) ps m S
+led_read n (Stopped h) ps m S is broke = subst (λ k. Broke n k ps m S) (sym is) broke
+led_read n (Failed h) ps m S is broke = subst (λ k. Broke n k ps m S) (sym is) broke
+led_read n (Lost at) ps m S is broke = absurd is
+led_read n (Damaged at) ps m S is broke = absurd is
+
 -- what holds on a stop holds of it
 pub of_stop : (n : ℕ) (fault : DevFault) (P : Type 0) → IsStopOf n fault → OnStop fault P → P
 of_stop n (Stopped h) P is was = was
 of_stop n (Failed h) P is was = was
 of_stop n (Lost at) P is was = absurd is
 of_stop n (Damaged at) P is was = absurd is
+
+-- what holds in any case holds on a stop
+pub on_stop : (fault : DevFault) (P : Type 0) → P → OnStop fault P
+on_stop (Stopped h) P was = was
+on_stop (Failed h) P was = was
+on_stop (Lost at) P was = tt
+on_stop (Damaged at) P was = tt

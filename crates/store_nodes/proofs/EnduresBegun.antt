@@ -1,25 +1,26 @@
 -- A transaction begins in a store that endures.
-use Rattle.std.specs.Prelude.{◌≡◌, ◌≢◌, ◌⊎◌, ◌==◌, ◌+◌, ◌*◌, ◌^◌, ◌<◌, ◌≤◌, ◌++◌, ◌∷◌, [], ℕ, Bool, true, false, List, Option, Some, None, is_some, length, map, refl}
+use Rattle.std.specs.Prelude.{◌≡◌, ◌≢◌, ◌==◌, ◌+◌, ◌*◌, ◌≤◌, ◌++◌, ◌∷◌, [], ℕ, Bool, true, false, List, Option, Some, None, IfSome, is_some, length, map, refl, slice_set}
 use Rattle.std.specs.List.{list_any}
 use Rattle.std.proofs.Common.{arith, inl, inr, ap, subst, sym, ◌∙◌}
 use Rattle.std.proofs.lemmas.Bool.{cases_eq}
 use Rattle.sd_base.specs.Disk.{BlockState}
-use Rattle.sd_base.specs.Shape.{page_count}
 use Rattle.sd_base.specs.declared.names.Key.{Key}
-use Rattle.sd_base.specs.declared.names.PageNo.{PageNo}
 use Rattle.sd_base.specs.declared.names.TxnId.{TxnId}
 use Rattle.sd_base.specs.declared.shape.Shape.{Shape}
 use Rattle.log_record.specs.declared.record.LogRecord.{LogRecord}
 use Rattle.log_record.specs.declared.record.LogRecord.TheVariants.{Begin}
 use Rattle.private_log.specs.Log.{space}
-use Rattle.record_locks.specs.declared.mode.Mode.{Mode}
 use Rattle.record_locks.specs.declared.mode.Mode.TheVariants as locks
 use Rattle.record_locks.specs.Held.{mode_of}
 use Rattle.node_cache.specs.Cache.{CacheState}
 use Rattle.txn_core.specs.Seats.{OpenTxn, SeatsState, is_busy, owed, txn_in}
+use Rattle.recovery_theory.specs.Effect.{effect_of}
 use Rattle.recovery_theory.specs.History.{History, entry_now, image_now}
 use Rattle.recovery_theory.specs.Room.{HasRoom}
+use Rattle.recovery_theory.specs.Rules.{is_record_of}
 use Rattle.recovery_theory.specs.Steps as step
+use Rattle.recovery_theory.proofs.Cuts.{with_record-same}
+use Rattle.recovery_theory.proofs.RuledLogs.{told_of}
 use Rattle.recovery_theory.proofs.RoomTaken.{room_for_one_more}
 use Rattle.record_machine.specs.Cuts.{Survives, SurvivesAs}
 use Rattle.record_machine.specs.Machine.{Deed, Machine, deeds_of, is_begin_in}
@@ -34,6 +35,8 @@ use Rattle.store_nodes.specs.declared.store.Store.{Store}
 use Rattle.store_nodes.specs.Nodes.{IsAtWork, IsPlace, IsStore, node_at}
 use Rattle.store_nodes.specs.Endures.{AreBusy, EnduresAs, with_held}
 use Rattle.store_nodes.specs.Shows.{ShowsNode, deeds_in, numbers_of}
+use Rattle.store_nodes.specs.Tied.{AreLatest, TiesNode, TiesUp}
+use Rattle.store_nodes.proofs.LastRecords.{last_other, latest_set}
 use Rattle.store_nodes.proofs.Owing.{owed_shown}
 use Rattle.store_nodes.proofs.ShownLogged.{length_shown}
 use Rattle.store_nodes.proofs.Works.{work_at}
@@ -119,3 +122,20 @@ module _ (me : Store) (b : ℕ → BlockState) (p : Plain) (m : Machine) (t : Tx
           let never : true ≡ false = sym (shown.lockers key u how has is_up) ∙ ap (machine.is_busy m) both ∙ free in absurd cc)
     ]
   ]
+
+  pub latest_begun : (after : SeatsState) → after.seats ≡ slice_set seats.seats t.seat (Some (record { begin = c.log.tail; last = c.log.tail; left = 0 })) → AreLatest (h.devices.first n) (h'.live n) after
+  latest_begun after new =
+      let r = shown.survives.survives.recoverable in
+      let tied : TiesUp n c seats h = subst (λ o. TiesNode me.shape n o b h) up (shown.tied.node n place low) in
+      let live : length (h.live n) ≡ length (p.live n) = ap length (r.live n) in
+      let long = length_shown n me.shape me.shared.pool c seats b p m1 mine.1 in
+      let first = tied.first in
+      let end : h.devices.first n + length (h.live n) ≡ c.log.tail = omega (arith, live, long, first) in
+      subst (λ recs. AreLatest (h.devices.first n) recs after) (sym (with_record-same n Begin h.live))
+      (latest_set (h.devices.first n) (h.live n) Begin seats after t.seat (Some (record { begin = c.log.tail; last = c.log.tail; left = 0 })) work.eight new
+      (last_other c.log.tail (h.devices.first n) (h.live n) Begin refl ∙ ((told_of (h.devices.first n) (h.live n) c.log.tail (r.roomy.whole.ruled n) (omega (arith, end))).early (omega (arith, end))).last)
+      (λ k k_low far. none_of (txn_in seats k)) tied.latest)
+    where
+      none_of : (o : Option OpenTxn) → IfSome o (λ u. is_record_of u.begin (effect_of Begin) ≡ false)
+      none_of None = tt
+      none_of (Some u) = refl

@@ -13,8 +13,12 @@ pub mod Broken
 pub mod HaltedNodes
 pub mod StoppedEndures
 pub mod MayHalts
+pub mod RingEndures
 pub mod LoggedEndures
+pub mod LastRecords
 pub mod EnduresBegun
+pub mod EnduresEnded
+pub mod EnduresStarted
 pub mod ShownBegin
 pub mod ShownEnd
 pub mod Logs
@@ -28,6 +32,7 @@ pub mod OtherRecords
 pub mod ShownUse
 pub mod LogReplies
 pub mod LeftWrites
+pub mod Seated
 pub mod BackDeeds
 pub mod ShownBack
 pub mod ShownReopening

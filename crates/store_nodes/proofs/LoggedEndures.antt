@@ -1,13 +1,10 @@
 -- A store endures a call of a node that logs one record, where its pages stay: what it leaves, done or stopped.
-use Rattle.std.specs.Prelude.{◌≡◌, ◌≢◌, ◌-◌, ◌*◌, ◌/◌, ◌<◌, ◌≤◌, ℕ, Bool, true, All, List, Option, length, map, refl, slice_set}
-use Rattle.std.proofs.Common.{ap, subst, sym, ◌∙◌, length-set}
+use Rattle.std.specs.Prelude.{◌≡◌, ◌≢◌, ◌-◌, ◌/◌, ◌≤◌, ℕ, All, List, map}
+use Rattle.std.proofs.Common.{subst, ◌∙◌}
 use Rattle.sd_base.specs.Disk.{BlockState}
 use Rattle.sd_base.specs.Calls.{KeepsForeign, KeepsForeignBut, Narrows}
-use Rattle.sd_base.specs.Shape.{page_count}
-use Rattle.sd_base.specs.declared.names.PageNo.{PageNo}
 use Rattle.log_record.specs.Legal.{IsLegal}
 use Rattle.log_record.specs.Text.{record_text}
-use Rattle.private_log.specs.Content.{region_of}
 use Rattle.private_log.specs.Frames.{NarrowsBeside}
 use Rattle.private_log.specs.Log.{SameLog, next_place, region}
 use Rattle.private_log.specs.Spread.{IsCutLog, IsStill}
@@ -17,74 +14,41 @@ use Rattle.recovery_theory.specs.History.{History}
 use Rattle.record_machine.specs.Cuts.{SurvivesAs}
 use Rattle.record_machine.specs.Machine.{Machine}
 use Rattle.record_machine.specs.Machine as machine
-use Rattle.record_machine.specs.Meaning.{Means, Plain}
+use Rattle.record_machine.specs.Meaning.{Plain}
 use Rattle.store_nodes.specs.declared.node.Node.{Node}
 use Rattle.store_nodes.specs.declared.node.Node.TheVariants.{Up}
 use Rattle.store_nodes.specs.declared.store.Store.{Store}
-use Rattle.store_nodes.specs.Endures.{AreBusy, AreClean, AreGone, EnduresAs, MayHaltAs, with_held}
-use Rattle.store_nodes.specs.Nodes.{IsAtWork, IsPlace, IsStore, node_at, with_node}
+use Rattle.store_nodes.specs.Endures.{AreBusy, EnduresAs, MayHaltAs, with_held}
+use Rattle.store_nodes.specs.Nodes.{IsPlace, IsStore, node_at, with_node}
 use Rattle.store_nodes.specs.Ports.{IsQuiet}
-use Rattle.store_nodes.specs.Shows.{ShowsNodes, ShowsUp}
-use Rattle.store_nodes.specs.Tied.{TiesNode, TiesPage, TiesUp}
-use Rattle.store_nodes.proofs.Eight.{others_stay}
+use Rattle.store_nodes.specs.Shows.{ShowsUp}
+use Rattle.store_nodes.specs.Tied.{AreLatest, TiesNode, TiesUp}
 use Rattle.store_nodes.proofs.Logs as logs
-use Rattle.store_nodes.proofs.MayHalts.{clean_halting, may_halt}
-use Rattle.store_nodes.proofs.OtherLogs.{LeavesRegion, others_settle, region_then}
+use Rattle.store_nodes.proofs.RingEndures.{ring_endures, ring_halts}
 use Rattle.store_nodes.proofs.ShownOthers.{LeavesNode}
-use Rattle.store_nodes.proofs.ShownWith.{changed_same, nodes_with, settled_before}
-use Rattle.store_nodes.proofs.Ties.{LeavesLog, down_tied, pages_beside, pages_narrowed, place_cut, tied_with, up_tied}
-use Rattle.store_nodes.proofs.Works.{place_inside, up_most}
+use Rattle.store_nodes.proofs.Ties.{LeavesLog, up_tied}
 
 module _ (me : Store) (n i : ℕ) (c d : CacheState) (seats after : SeatsState) (is : IsStore me) (place : IsPlace n) (at : i ≡ n - 1) (up : node_at me.nodes n ≡ Up c seats) (b b' : ℕ → BlockState) (p p' : Plain) (m m' : Machine) (e : EnduresAs me b p m) (h' : History)
     (narrows : NarrowsBeside (next_place c.log) b b') (foreign : KeepsForeignBut (next_place c.log) c.node.0 b b') (quiet : IsQuiet me b)
     (shape : m'.shape ≡ m.shape) (reopening : m'.reopening ≡ m.reopening) (gone : m'.gone ≡ m.gone) (hold : (x : ℕ) → m'.hold x ≡ m.hold x) (disk : h'.devices.disk ≡ e.history.devices.disk) (first : h'.devices.first n ≡ e.history.devices.first n)
     (leaves : (k : ℕ) → IsPlace k → k ≢ n → LeavesNode me.shape k (node_at me.nodes k) p p' (with_held e.held m) (with_held e.held m')) (logged : (k : ℕ) → k ≢ n → LeavesLog k e.history h') where
-  others : (k : ℕ) → IsPlace k → k ≤ me.shape.nodes → k ≢ n → LeavesRegion (region_of me.shape k) b b'
-  others = logs.logs_after me n i c d seats after is place at up b b' foreign quiet
-
-  work : IsAtWork me.shape me.shared.pool me.shared.owners n c seats
-  work = logs.work me n i c d seats after is place at up
-
   low : n ≤ me.shape.nodes
   low = logs.low me n i c d seats after is place at up
 
-  was_tied : TiesUp n c e.history
+  was_tied : TiesUp n c seats e.history
   was_tied = subst (λ o. TiesNode me.shape n o b e.history) up (e.tied.node n place low)
-
-  page : (x : PageNo) → x.0 < page_count me.shape → TiesPage me.shape b' h' x
-  page = pages_beside me.shape me.nodes c b b' e.history h' work.store work.log_tie narrows disk e.tied
 
   abbrev S : List Node → Store
   S nodes = record { shape = me.shape; shared = me.shared; nodes = nodes }
 
   -- it is done
-  pub logged_endures : m'.mode n ≡ machine.Up → d.pages ≡ c.pages → SameLog c.log d.log → h'.stable n ≡ e.history.stable n → c.log.stable ≤ d.log.stable → AreBusy m' → m'.locks ≡ m.locks → ShowsUp me.shape me.shared.pool n d after b' p' (with_held e.held m') → SurvivesAs e.held e.dirty h' p' m'
+  pub logged_endures : m'.mode n ≡ machine.Up → d.pages ≡ c.pages → SameLog c.log d.log → h'.stable n ≡ e.history.stable n → c.log.stable ≤ d.log.stable → AreLatest (e.history.devices.first n) (h'.live n) after → AreBusy m' → m'.locks ≡ m.locks → ShowsUp me.shape me.shared.pool n d after b' p' (with_held e.held m') → SurvivesAs e.held e.dirty h' p' m'
       → EnduresAs (S (with_node me.nodes n (Up d after))) b' p' m'
-  logged_endures live same_pages same stable rises busy locks shows survives = record {
-    held = e.held;
-    dirty = e.dirty;
-    history = h';
-    nodes = nodes_with me.shape me.shared.pool me.shared.pool me.shared.owners me.shared.owners me.nodes n d after b b' p p' (with_held e.held m) (with_held e.held m') is place e.nodes others (λ j j_is far k a below. refl) leaves survives.survives.means (shape ∙ e.nodes.shape) live shows (λ x within. hold x ∙ e.nodes.hold x within);
-    locks = locks ∙ e.locks;
-    reopening = reopening ∙ e.reopening;
-    lockers = busy;
-    clean = λ whole x within settled. e.clean (sym reopening ∙ whole) x within (settled_before me.nodes me.shared.owners n c d seats after is.shared.eight place up x (is.shared.holders x.0) (λ clean. sym (changed_same x c d same_pages) ∙ clean) settled);
-    lost = λ x within none. ap (λ f. f x) gone ∙ e.lost x within (sym (ap (λ f. f x) disk) ∙ none);
-    tied = tied_with me.shape me.nodes n (Up d after) b b' e.history h' is.shared.eight place e.tied others logged (up_tied n c d e.history h' first stable same rises was_tied) page;
-    survives = survives;
-  }
+  logged_endures live same_pages same stable rises latest busy locks shows survives =
+      ring_endures me n i (c.log.tail / 6) c d seats after is place at up b b' p p' m m' e h' narrows foreign quiet shape reopening gone hold disk first leaves logged e.held me.shared.locks live same_pages (up_tied n c d seats after e.history h' first stable same rises latest was_tied) busy (locks ∙ e.locks) shows survives
 
   -- or the node is about to halt, whose port has stopped in it
   pub logged_halts : (b'' : ℕ → BlockState) → m'.mode n ≡ machine.Up → Narrows b' b'' → KeepsForeign n b' b'' → All IsLegal (h'.live n) → (cut : IsCutLog (region c.log) c.log.start c.log.stable b' (map record_text (h'.live n))) → h'.stable n ≤ cut.count → IsStill (region c.log) b' → AreBusy m' → m'.locks ≡ m.locks → SurvivesAs e.held e.dirty h' p' m'
       → MayHaltAs n (S (with_node me.nodes n (Up d after))) b'' p' m'
   logged_halts b'' live settled stops legal cut sure still busy locks survives =
-      let own = logs.region_here me n i c d seats after is place at up in
-      let begins : h'.devices.first n ≡ 6 * c.log.start = first ∙ was_tied.first in
-      let eight' : length (with_node me.nodes n (Up d after)) ≡ 8 = length-set me.nodes (n - 1) (Up d after) ∙ is.shared.eight in
-      let stay = others_stay me.nodes n (Up d after) is.shared.eight place in
-      may_halt me n c seats is place up (with_node me.nodes n (Up d after)) eight' stay b b'' p p' m m' e me.shared.pool e.dirty h' cut.count live shape locks reopening gone hold disk
-      (λ k k_is most far. region_then (region_of me.shape k) b b' b'' (others k k_is most far)
-      (others_settle me.shape me.nodes n (next_place c.log) b b' is.shared.shape place.0 low (up_most me.shape me.shared.pool me.shared.owners me.nodes is) (place_inside me.shape n c (c.log.tail / 6) work.number work.store work.log_tie) quiet (subst (λ k. KeepsForeignBut (next_place c.log) k b b') work.number foreign) b'' stops k k_is most far))
-      (λ k k_is far j a below. refl) leaves logged busy (clean_halting me n c seats is place up (with_node me.nodes n (Up d after)) eight' stay e.dirty m m' reopening e.clean)
-      (place_cut me.shape n c b' b'' h' own begins legal cut sure still stops) (down_tied me.shape n c b' b'' h' own begins legal cut sure still stops)
-      (pages_narrowed me.shape b' b'' h' h' settled refl page) survives
+      ring_halts me n i (c.log.tail / 6) c d seats after is place at up b b' p p' m m' e h' narrows foreign quiet shape reopening gone hold disk first leaves logged b'' live settled stops legal cut sure still (λ key t how has up far. busy key t how has up) locks survives

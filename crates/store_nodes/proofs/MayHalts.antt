@@ -25,7 +25,7 @@ use Rattle.store_nodes.specs.declared.node.Node.{Node}
 use Rattle.store_nodes.specs.declared.node.Node.TheVariants.{Up, Down}
 use Rattle.store_nodes.specs.declared.store.Shared.{Shared}
 use Rattle.store_nodes.specs.declared.store.Store.{Store}
-use Rattle.store_nodes.specs.Endures.{AreBusy, AreClean, AreGone, EnduresAs, MayHaltAs, with_held}
+use Rattle.store_nodes.specs.Endures.{AreBusy, AreBusyBut, AreClean, AreGone, EnduresAs, MayHaltAs, with_held}
 use Rattle.store_nodes.specs.Nodes.{IsHeldBy, IsPlace, IsStore, KeepsFramesBut, OnUp, OthersStay, is_up, node_at, with_node}
 use Rattle.store_nodes.specs.Shows.{IsHolderUp, IsSettled, ShowsNode, holder}
 use Rattle.store_nodes.specs.Tied.{TiesNode, TiesPage, TiesStill}
@@ -89,7 +89,7 @@ module _ (me : Store) (n : ℕ) (c : CacheState) (seats : SeatsState) (is : IsSt
     -- where a page whose block is lost is said to be gone
     pub may_halt_lacking : m'.mode n ≡ machine.Up → m'.shape ≡ m.shape → m'.locks ≡ m.locks → m'.reopening ≡ m.reopening → AreGone me.shape h' m' → ((x : ℕ) → m'.hold x ≡ m.hold x)
         → ((k : ℕ) → IsPlace k → k ≤ me.shape.nodes → k ≢ n → LeavesRegion (region_of me.shape k) b b') → KeepsFramesBut n me.nodes me.shared.pool pool → ((k : ℕ) → IsPlace k → k ≢ n → LeavesNode me.shape k (node_at me.nodes k) p p' (with_held e.held m) (with_held e.held m')) → ((k : ℕ) → k ≢ n → LeavesLog k e.history h')
-        → AreBusy m' → AreClean me.shape owners (with_node nodes' n Down) dirty m' → IsPlaceToCut h' n cut → TiesStill me.shape n b' (stopped h' n cut) → ((x : PageNo) → x.0 < page_count me.shape → TiesPage me.shape b' h' x) → SurvivesAs e.held dirty h' p' m'
+        → AreBusyBut n m' → AreClean me.shape owners (with_node nodes' n Down) dirty m' → IsPlaceToCut h' n cut → TiesStill me.shape n b' (stopped h' n cut) → ((x : PageNo) → x.0 < page_count me.shape → TiesPage me.shape b' h' x) → SurvivesAs e.held dirty h' p' m'
         → MayHaltAs n (record { shape = me.shape; shared = record { pool = pool; owners = owners; locks = me.shared.locks; reopening = me.shared.reopening }; nodes = nodes' }) b' p' m'
     may_halt_lacking live shape locks reopening lost hold logs frames leaves logged busy clean place_is left page survives = record {
       held = e.held;
@@ -116,9 +116,16 @@ module _ (me : Store) (n : ℕ) (c : CacheState) (seats : SeatsState) (is : IsSt
       survives = survives;
     }
 
-    -- so it is where the disk stays
+    -- where the disk stays
+    pub may_halt_with : m'.mode n ≡ machine.Up → m'.shape ≡ m.shape → m'.locks ≡ m.locks → m'.reopening ≡ m.reopening → m'.gone ≡ m.gone → ((x : ℕ) → m'.hold x ≡ m.hold x) → h'.devices.disk ≡ e.history.devices.disk
+        → ((k : ℕ) → IsPlace k → k ≤ me.shape.nodes → k ≢ n → LeavesRegion (region_of me.shape k) b b') → KeepsFramesBut n me.nodes me.shared.pool pool → ((k : ℕ) → IsPlace k → k ≢ n → LeavesNode me.shape k (node_at me.nodes k) p p' (with_held e.held m) (with_held e.held m')) → ((k : ℕ) → k ≢ n → LeavesLog k e.history h')
+        → AreBusyBut n m' → AreClean me.shape owners (with_node nodes' n Down) dirty m' → IsPlaceToCut h' n cut → TiesStill me.shape n b' (stopped h' n cut) → ((x : PageNo) → x.0 < page_count me.shape → TiesPage me.shape b' h' x) → SurvivesAs e.held dirty h' p' m'
+        → MayHaltAs n (record { shape = me.shape; shared = record { pool = pool; owners = owners; locks = me.shared.locks; reopening = me.shared.reopening }; nodes = nodes' }) b' p' m'
+    may_halt_with live shape locks reopening gone hold disk = may_halt_lacking live shape locks reopening (λ x within none. ap (λ f. f x) gone ∙ e.lost x within (sym (ap (λ f. f x) disk) ∙ none)) hold
+
+    -- where each transaction that has a lock is open, also of the node
     pub may_halt : m'.mode n ≡ machine.Up → m'.shape ≡ m.shape → m'.locks ≡ m.locks → m'.reopening ≡ m.reopening → m'.gone ≡ m.gone → ((x : ℕ) → m'.hold x ≡ m.hold x) → h'.devices.disk ≡ e.history.devices.disk
         → ((k : ℕ) → IsPlace k → k ≤ me.shape.nodes → k ≢ n → LeavesRegion (region_of me.shape k) b b') → KeepsFramesBut n me.nodes me.shared.pool pool → ((k : ℕ) → IsPlace k → k ≢ n → LeavesNode me.shape k (node_at me.nodes k) p p' (with_held e.held m) (with_held e.held m')) → ((k : ℕ) → k ≢ n → LeavesLog k e.history h')
         → AreBusy m' → AreClean me.shape owners (with_node nodes' n Down) dirty m' → IsPlaceToCut h' n cut → TiesStill me.shape n b' (stopped h' n cut) → ((x : PageNo) → x.0 < page_count me.shape → TiesPage me.shape b' h' x) → SurvivesAs e.held dirty h' p' m'
         → MayHaltAs n (record { shape = me.shape; shared = record { pool = pool; owners = owners; locks = me.shared.locks; reopening = me.shared.reopening }; nodes = nodes' }) b' p' m'
-    may_halt live shape locks reopening gone hold disk = may_halt_lacking live shape locks reopening (λ x within none. ap (λ f. f x) gone ∙ e.lost x within (sym (ap (λ f. f x) disk) ∙ none)) hold
+    may_halt live shape locks reopening gone hold disk logs frames leaves logged busy = may_halt_with live shape locks reopening gone hold disk logs frames leaves logged (λ key t how has up far. busy key t how has up)

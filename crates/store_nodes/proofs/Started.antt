@@ -45,6 +45,30 @@ use Rattle.store_nodes.proofs.Works.{served_still}
 rest_at : (s : Shape) (pool : List (Option (List ℕ))) (owners : List Own) (nodes : List Node) (n : ℕ) → IsPlace n → node_at nodes n ≡ Idle → IsStoreOf s pool owners nodes → IsAtRest owners n
 rest_at s pool owners nodes n place idle is = subst (IsNode s pool owners n) idle (is.is n place)
 
+-- ---- a node that is at rest
+
+module _ (s : Shape) (pool : List (Option (List ℕ))) (owners : List Own) (nodes : List Node) (n : ℕ) (node : Node) (is : IsStoreOf s pool owners nodes) (place : IsPlace n) (idle : node_at nodes n ≡ Idle) where
+  -- whatever becomes of it, a page is settled as before: the node holds none
+  pub settled_before : (x : PageNo) → IsSettled (with_node nodes n node) owners x → IsSettled nodes owners x
+  settled_before x was = record {
+    holder = by (owner_of owners x.0) refl was.holder;
+    clean = λ k k_is. elim (cases_eq k n) [
+      | inl here ↦ subst (λ j. OnUp (node_at nodes j) (λ e after. is_changed x e ≡ false)) (sym here) (subst (λ o. OnUp o (λ e after. is_changed x e ≡ false)) (sym idle) tt)
+      | inr far ↦ subst (λ o. OnUp o (λ e after. is_changed x e ≡ false)) (at_other nodes n node is.shared.eight place k k_is far) (was.clean k k_is)
+    ];
+  }
+    where
+      up_before : (k : NodeId) → IsHeldBy k (owner_of owners x.0) → is_up (node_at (with_node nodes n node) k.0) ≡ true → is_up (node_at nodes k.0) ≡ true
+      up_before k held up = elim (cases_eq k.0 n) [
+        | inl same ↦ absurd (rest_at s pool owners nodes n place idle is x.0 (subst (λ j. IsHeldBy (record { 0 = j }) (owner_of owners x.0)) same held))
+        | inr far ↦ ap is_up (sym (at_other nodes n node is.shared.eight place k.0 (is.shared.holders x.0 k held) far)) ∙ up
+      ]
+
+      by : (own : Own) → owner_of owners x.0 ≡ own → IsHolderUp (with_node nodes n node) own → IsHolderUp nodes own
+      by Nobody at was = tt
+      by (Parked k) at was = up_before k (inl at) was
+      by (Out k) at was = up_before k (inr at) was
+
 -- ---- where it doesn't
 
 -- the port of a node has stopped that isn't up: each uncovered write is one of a node that is up
@@ -118,7 +142,7 @@ module _ (s : Shape) (pool : List (Option (List ℕ))) (owners : List Own) (node
   -- ---- what it shows
 
   -- with an empty cache and no transaction, over the log of an idle node
-  up_started : (b b' : ℕ → BlockState) (p : Plain) (m : Machine) → region c.log ≡ region_of s n → (xs : List (List ℕ)) → LogContent (region_of s n) (contents b) c.log.start xs
+  pub up_started : (b b' : ℕ → BlockState) (p : Plain) (m : Machine) → region c.log ≡ region_of s n → (xs : List (List ℕ)) → LogContent (region_of s n) (contents b) c.log.start xs
       → ((start : ℕ) (xs : List (List ℕ)) → IsStill (region c.log) b → LogContent (region c.log) (contents b) start xs → HasNoFuture (region c.log) (contents b) start xs → IsLogOn c.log b' xs)
       → ShowsIdle s n b p m → ShowsUp s pool n c seats b' p (one (Start n) m)
   up_started b b' p m region_is xs read on shown =
@@ -142,27 +166,6 @@ module _ (s : Shape) (pool : List (Option (List ℕ))) (owners : List Own) (node
         within = rw none (λ k d low. absurd (omega (arith, low)));
       }
 
-  -- a page is settled as before: the node holds none
-  settled_before : (x : PageNo) → IsSettled (with_node nodes n (Up c seats)) owners x → IsSettled nodes owners x
-  settled_before x was = record {
-    holder = by (owner_of owners x.0) refl was.holder;
-    clean = λ k k_is. elim (cases_eq k n) [
-      | inl here ↦ subst (λ j. OnUp (node_at nodes j) (λ e after. is_changed x e ≡ false)) (sym here) (subst (λ o. OnUp o (λ e after. is_changed x e ≡ false)) (sym idle) tt)
-      | inr far ↦ subst (λ o. OnUp o (λ e after. is_changed x e ≡ false)) (at_other nodes n (Up c seats) is.shared.eight place k k_is far) (was.clean k k_is)
-    ];
-  }
-    where
-      up_before : (k : NodeId) → IsHeldBy k (owner_of owners x.0) → is_up (node_at (with_node nodes n (Up c seats)) k.0) ≡ true → is_up (node_at nodes k.0) ≡ true
-      up_before k held up = elim (cases_eq k.0 n) [
-        | inl same ↦ absurd (rest x.0 (subst (λ j. IsHeldBy (record { 0 = j }) (owner_of owners x.0)) same held))
-        | inr far ↦ ap is_up (sym (at_other nodes n (Up c seats) is.shared.eight place k.0 (is.shared.holders x.0 k held) far)) ∙ up
-      ]
-
-      by : (own : Own) → owner_of owners x.0 ≡ own → IsHolderUp (with_node nodes n (Up c seats)) own → IsHolderUp nodes own
-      by Nobody at was = tt
-      by (Parked k) at was = up_before k (inl at) was
-      by (Out k) at was = up_before k (inr at) was
-
   pub shown_started : (b : ℕ → BlockState) (p : Plain) (m : Machine) → region c.log ≡ region_of s n → (xs : List (List ℕ)) → LogContent (region_of s n) (contents b) c.log.start xs
       → ((start : ℕ) (xs : List (List ℕ)) → IsStill (region c.log) b → LogContent (region c.log) (contents b) start xs → HasNoFuture (region c.log) (contents b) start xs → IsLogOn c.log b xs)
       → ShowsStoreOf s pool owners nodes b p m → ShowsStoreOf s pool owners (with_node nodes n (Up c seats)) b p (one (Start n) m)
@@ -170,7 +173,7 @@ module _ (s : Shape) (pool : List (Option (List ℕ))) (owners : List Own) (node
       let before = subst (λ o. ShowsNode s pool n o b p m) idle (was.node n place last) in
       shown_with s pool pool owners owners nodes n c seats b b p p m (one (Start n) m) is place was (λ k k_is low far. record { narrows = λ i o within may. may; keeps = λ i within. refl; still = λ still. still }) (λ k k_is far i d below. refl)
       (λ k k_is far. record { live = refl; mode = put_other n mode.Up m.mode k far; start = refl; pending = refl; images = λ i d below. refl; lives = λ i d below. refl })
-      (means_started p m n was.means) was.shape (put_same n mode.Up m.mode n refl) (up_started b b p m region_is xs read on before.1) (λ x within settled. was.stored x within (settled_before x settled)) was.hold
+      (means_started p m n was.means) was.shape (put_same n mode.Up m.mode n refl) (up_started b b p m region_is xs read on before.1) (λ x within settled. was.stored x within (settled_before s pool owners nodes n (Up c seats) is place idle x settled)) was.hold
 
 -- ---- the same of the store as the code has it
 

@@ -214,7 +214,7 @@ module _ (n : NodeId) (old new : Store) (b : ℕ → BlockState) (p : Plain) (m 
     | inl here ↦ (let never : machine.Down ≡ machine.Up = sym (put_same n.0 machine.Down m.mode t.node.0 here) ∙ up in absurd cc)
     | inr far ↦
         let same = stop_others m n.0 kept t.node.0 far in
-        ap (list_any (machine.is_begin_in t.seat)) same.1 ∙ w.lockers key t how (stop_none_new m n.0 kept key t how has) (sym same.0 ∙ up)
+        ap (list_any (machine.is_begin_in t.seat)) same.1 ∙ w.lockers key t how (stop_none_new m n.0 kept key t how has) (sym same.0 ∙ up) far
   ]
 
   -- ---- the pages that the disk has

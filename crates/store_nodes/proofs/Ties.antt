@@ -1,9 +1,9 @@
 -- What a call of one node leaves of what the logs and pages of a store say of its history.
-use Rattle.std.specs.Prelude.{◌≡◌, ◌≢◌, ◌⊎◌, ◌+◌, ◌*◌, ◌≤◌, ◌<◌, ◌++◌, ◌∷◌, [], ℕ, Bool, true, false, All, List, Option, Some, None, MatchOption, length, map, take, refl}
+use Rattle.std.specs.Prelude.{◌≡◌, ◌≢◌, ◌+◌, ◌*◌, ◌/◌, ◌≤◌, ◌<◌, ℕ, All, List, None, MatchOption, length, map, take, refl}
 use Rattle.std.proofs.Common.{arith, inl, inr, ap, subst, sym, ◌∙◌, length-take-le}
 use Rattle.std.proofs.lemmas.List.{length-map, take-map}
 use Rattle.std.proofs.lemmas.List.Elements.{All-take}
-use Rattle.sd_base.specs.Disk.{BlockState, MayHold}
+use Rattle.sd_base.specs.Disk.{BlockState}
 use Rattle.sd_base.specs.Calls.{KeepsForeign, Narrows}
 use Rattle.sd_base.specs.Shape.{page_count}
 use Rattle.sd_base.specs.declared.names.PageNo.{PageNo}
@@ -11,25 +11,24 @@ use Rattle.sd_base.specs.declared.shape.Shape.{Shape}
 use Rattle.log_record.specs.declared.record.LogRecord.{LogRecord}
 use Rattle.log_record.specs.Legal.{IsLegal}
 use Rattle.log_record.specs.Text.{record_text}
-use Rattle.private_log.specs.Content.{region_of}
+use Rattle.private_log.specs.Content.{place, region_of}
 use Rattle.private_log.specs.Frames.{NarrowsBeside}
 use Rattle.private_log.specs.Log.{SameLog, next_place, region}
 use Rattle.private_log.specs.Spread.{IsCutLog, IsSpread, IsStill}
 use Rattle.private_log.proofs.SpreadLaws.{narrowed_log}
-use Rattle.page_owner.specs.declared.owners.Own.{Own}
 use Rattle.state_ids.specs.Blocks.{HoldsPage, page_place}
 use Rattle.node_cache.specs.Cache.{CacheState, IsOfStore, IsTiedToLog}
 use Rattle.node_cache.proofs.DiskTie.{not_in_ring}
 use Rattle.txn_core.specs.Seats.{SeatsState}
 use Rattle.recovery_theory.specs.History.{History}
-use Rattle.recovery_theory.specs.Steps.{IsPlaceToCut, set_at, stopped}
+use Rattle.recovery_theory.specs.Steps.{IsPlaceToCut, stopped}
 use Rattle.recovery_theory.proofs.Cuts.{set_at-other, set_at-same}
 use Rattle.store_nodes.specs.declared.node.Node.{Node}
 use Rattle.store_nodes.specs.declared.node.Node.TheVariants.{Idle, Up, Down}
-use Rattle.store_nodes.specs.Nodes.{IsPlace, IsStoreOf, node_at, with_node}
-use Rattle.store_nodes.specs.Tied.{IsTied, TiesNode, TiesPage, TiesStill, TiesUp}
+use Rattle.store_nodes.specs.Nodes.{IsPlace, node_at, with_node}
+use Rattle.store_nodes.specs.Tied.{AreLatest, IsTied, TiesNode, TiesPage, TiesStill, TiesUp}
 use Rattle.store_nodes.proofs.Eight.{each_with}
-use Rattle.store_nodes.proofs.OtherLogs.{LeavesRegion, region_settled, region_then}
+use Rattle.store_nodes.proofs.OtherLogs.{LeavesRegion, region_settled}
 
 -- ---- a node of which nothing has changed
 
@@ -55,7 +54,11 @@ tie_left s n node b b' h h' region same was = by node was
     by : (o : Node) → TiesNode s n o b h → TiesNode s n o b' h'
     by Idle w = still w
     by Down w = still w
-    by (Up c seats) w = record { first = same.first ∙ w.first; stable = subst (λ k. 6 * c.log.start + k ≤ c.log.stable) (sym same.stable) w.stable }
+    by (Up c seats) w = record {
+      first = same.first ∙ w.first;
+      stable = subst (λ k. 6 * c.log.start + k ≤ c.log.stable) (sym same.stable) w.stable;
+      latest = subst (λ f. AreLatest f (h'.live n) seats) (sym same.first) (subst (λ recs. AreLatest (h.devices.first n) recs seats) (sym same.live) w.latest);
+    }
 
 -- ---- the whole, where one node and its log have changed
 
@@ -67,13 +70,17 @@ module _ (s : Shape) (nodes : List Node) (n : ℕ) (node' : Node) (b b' : ℕ �
     page = pages;
   }
 
--- ---- the pages, where only a log was written
+-- ---- the pages, where only a block of a log was written
 
-pub pages_beside : (s : Shape) (nodes : List Node) (c : CacheState) (b b' : ℕ → BlockState) (h h' : History) → IsOfStore s c → IsTiedToLog c → NarrowsBeside (next_place c.log) b b' → h'.devices.disk ≡ h.devices.disk → IsTied s nodes b h → (x : PageNo) → x.0 < page_count s → TiesPage s b' h' x
-pages_beside s nodes c b b' h h' store tie narrows same was x low o may = subst (λ disk. MatchOption (disk x.0) (o ≡ None) (λ i. HoldsPage s x i o)) (sym same) (elim (narrows (page_place s x) o may) [
+pub pages_beside_block : (s : Shape) (nodes : List Node) (c : CacheState) (number : ℕ) (b b' : ℕ → BlockState) (h h' : History) → IsOfStore s c → IsTiedToLog c → NarrowsBeside (place (region c.log) number) b b' → h'.devices.disk ≡ h.devices.disk → IsTied s nodes b h → (x : PageNo) → x.0 < page_count s → TiesPage s b' h' x
+pages_beside_block s nodes c number b b' h h' store tie narrows same was x low o may = subst (λ disk. MatchOption (disk x.0) (o ≡ None) (λ i. HoldsPage s x i o)) (sym same) (elim (narrows (page_place s x) o may) [
   | inl old ↦ was.page x low o old
   | inr log ↦ absurd (not_in_ring s c store tie _ x log)
 ])
+
+-- as one record more was
+pub pages_beside : (s : Shape) (nodes : List Node) (c : CacheState) (b b' : ℕ → BlockState) (h h' : History) → IsOfStore s c → IsTiedToLog c → NarrowsBeside (next_place c.log) b b' → h'.devices.disk ≡ h.devices.disk → IsTied s nodes b h → (x : PageNo) → x.0 < page_count s → TiesPage s b' h' x
+pages_beside s nodes c = pages_beside_block s nodes c (c.log.tail / 6)
 
 -- and where then no block has a new outcome
 pub pages_narrowed : (s : Shape) (b b' : ℕ → BlockState) (h h' : History) → Narrows b b' → h'.devices.disk ≡ h.devices.disk → ((x : PageNo) → x.0 < page_count s → TiesPage s b h x) → (x : PageNo) → x.0 < page_count s → TiesPage s b' h' x
@@ -82,15 +89,16 @@ pages_narrowed s b b' h h' narrows same was x low o may = subst (λ disk. MatchO
 -- ---- the node itself
 
 -- it is up still
-pub up_tied : (n : ℕ) (c d : CacheState) (h h' : History) → h'.devices.first n ≡ h.devices.first n → h'.stable n ≡ h.stable n → SameLog c.log d.log → c.log.stable ≤ d.log.stable → TiesUp n c h → TiesUp n d h'
-up_tied n c d h h' first stable same rises was = record {
+pub up_tied : (n : ℕ) (c d : CacheState) (seats after : SeatsState) (h h' : History) → h'.devices.first n ≡ h.devices.first n → h'.stable n ≡ h.stable n → SameLog c.log d.log → c.log.stable ≤ d.log.stable → AreLatest (h.devices.first n) (h'.live n) after → TiesUp n c seats h → TiesUp n d after h'
+up_tied n c d seats after h h' first stable same rises latest was = record {
   first = first ∙ was.first ∙ ap (λ k. 6 * k) (sym same.start);
   stable = (let old = was.stable in let start = same.start in omega (arith, old, start, rises, stable));
+  latest = subst (λ f. AreLatest f (h'.live n) after) (sym first) latest;
 }
 
 -- what the history takes as stable is in each front of its log that a stop leaves
-pub stable_cut : (n : ℕ) (c : CacheState) (b : ℕ → BlockState) (h : History) (xs : List (List ℕ)) (cut : IsCutLog (region c.log) c.log.start c.log.stable b xs) → TiesUp n c h → h.stable n ≤ cut.count
-stable_cut n c b h xs cut was = (let old = was.stable in let low = cut.low in omega (arith, old, low))
+pub stable_cut : (n : ℕ) (c : CacheState) (b : ℕ → BlockState) (h : History) (xs : List (List ℕ)) (cut : IsCutLog (region c.log) c.log.start c.log.stable b xs) → 6 * c.log.start + h.stable n ≤ c.log.stable → h.stable n ≤ cut.count
+stable_cut n c b h xs cut was = (let low = cut.low in omega (arith, was, low))
 
 -- It has stopped: a front of its log is left, which has all that was stable.
 module _ (s : Shape) (n : ℕ) (c : CacheState) (b b' : ℕ → BlockState) (h : History) (own : region c.log ≡ region_of s n) (first : h.devices.first n ≡ 6 * c.log.start) (legal : All IsLegal (h.live n)) (cut : IsCutLog (region c.log) c.log.start c.log.stable b (map record_text (h.live n)))

@@ -31,6 +31,10 @@ with_held held m = record m { locks = held }
 abbrev pub AreBusy : Machine → Type 0
 AreBusy m = (key : Key) (t : TxnId) (how : Mode) → mode_of m.locks key t ≡ Some how → m.mode t.node.0 ≡ Up → is_busy m t ≡ true
 
+-- the same of the nodes but this one
+abbrev pub AreBusyBut : ℕ → Machine → Type 0
+AreBusyBut n m = (key : Key) (t : TxnId) (how : Mode) → mode_of m.locks key t ≡ Some how → m.mode t.node.0 ≡ Up → t.node.0 ≢ n → is_busy m t ≡ true
+
 -- a page that is settled is none of those that the disk may lack, while the tables aren't lost
 abbrev pub AreClean : Shape → List Own → List Node → (ℕ → Bool) → Machine → Type 0
 AreClean s owners nodes dirty m = m.reopening ≡ false → (x : PageNo) → x.0 < page_count s → IsSettled nodes owners x → dirty x.0 ≡ false
@@ -64,7 +68,7 @@ Endures c b m = (p : Plain) × EnduresAs c b p m
 -- ---- a store of which a node is about to halt
 
 -- The same of a store of which node n, which is up for the machine, is about to halt, and its port has stopped: what its log has
--- on the disk is a front of its records with all that was stable.
+-- on the disk is a front of its records with all that was stable. A transaction of it that has ended may still have its locks.
 pub record MayHaltAs (n : ℕ) (c : Store) (b : ℕ → BlockState) (p : Plain) (m : Machine) : Type 0 where
   pub held : Held
   pub dirty : ℕ → Bool
@@ -76,7 +80,7 @@ pub record MayHaltAs (n : ℕ) (c : Store) (b : ℕ → BlockState) (p : Plain) 
   pub hold : (x : ℕ) → x < page_count c.shape → m.hold x ≡ holder (owner_of c.shared.owners x)
   pub locks : m.locks ≡ c.shared.locks
   pub reopening : m.reopening ≡ c.shared.reopening
-  pub lockers : AreBusy m
+  pub lockers : AreBusyBut n m
   pub clean : AreClean c.shape c.shared.owners (with_node c.nodes n Down) dirty m
   pub lost : AreGone c.shape history m
   pub cut : ℕ

@@ -1,16 +1,18 @@
 //! The command `start`: the ports of a node start, its log is read, and the node is up.
 
-ghost use Rattle.std.specs.Prelude.{◌≡◌, ◌≤◌, true, false, IsTrue, IfErr, OnOk};
-ghost use Rattle.sd_base.specs.Calls.{Narrows};
+ghost use Rattle.std.specs.Prelude.{◌≡◌, ◌≤◌, ◌∷◌, [], true, false, IsTrue, IfErr, OnOk};
+ghost use Rattle.sd_base.specs.Calls.{KeepsForeign, Narrows};
 ghost use Rattle.sd_base.specs.Faults.{OnStop};
 ghost use Rattle.private_log.specs.Content.{region_of};
 ghost use Rattle.private_log.specs.Reading.{contents};
 ghost use Rattle.state_ids.specs.Blocks.{UnlessStopped};
 ghost use Rattle.store_format.specs.FaultReply.{fault_reply};
+ghost use Rattle.record_machine.specs.Led.{Led};
 ghost use Rattle.record_machine.specs.Machine.{Machine};
 ghost use Rattle.record_machine.specs.Parts.{Start, one};
 ghost use Rattle.store_nodes.specs.declared.node.Node.TheVariants.{Down, Idle, Up};
 ghost use Rattle.store_nodes.specs.Causes.{IsLogReply, IsToldDamaged};
+ghost use Rattle.store_nodes.specs.Endures.{Endures, MayHalt, Stops};
 ghost use Rattle.store_nodes.specs.Halting.{Halts};
 ghost use Rattle.store_nodes.specs.Nodes.{IsPlace, IsStore, is_up, node_at, with_node};
 ghost use Rattle.store_nodes.specs.Ports.{HasCause, IsQuiet, IsQuietBut, IsReady, IsServedBut, Works, says_stop};
@@ -62,7 +64,9 @@ impl Store {
         ensures quiet { IsTrue D.told → IsQuiet self.new (D.state disk.new).block }
         ensures outcomes { IsTrue D.told → Narrows (D.state disk.old).block (D.state disk.new).block }
         ensures vault_outcomes { IsTrue V.told → Narrows (V.state vault.old).block (V.state vault.new).block }
+        ensures foreign { IsTrue D.told → KeepsForeign n.0 (D.state disk.old).block (D.state disk.new).block }
         ensures halts { OnStop fault (Halts n self.old self.new (D.state disk.new) (V.state vault.new)) }
+        ensures led { OnStop fault (IsTrue D.told → (m : Machine) → MayHalt n.0 self.old (D.state disk.new).block m → Stops n.0 m (Endures self.new (D.state disk.new).block)) }
         ensures down { OnStop fault (node_at self.new.nodes n.0 ≡ Down) }
         ensures kept { UnlessStopped fault (self.new ≡ self.old) }
     {
@@ -103,6 +107,7 @@ impl Store {
         ensures halts { IfErr result (λ why. says_stop why ≡ true → Halts n self.old self.new (D.state disk.new) (V.state vault.new)) }
         ensures kept { IfErr result (λ why. says_stop why ≡ false → self.new ≡ self.old) }
         ensures shows { OnOk result (IsTrue D.told → (m : Machine) → IsShown self.old (D.state disk.old).block m → IsShown self.new (D.state disk.new).block (one (Start n.0) m)) }
+        ensures led { IsTrue D.told → (m : Machine) → m.reopening ≡ false → Endures self.old (D.state disk.old).block m → Led n.0 result (Start n.0 ∷ []) m (Endures self.new (D.state disk.new).block) }
         ensures stopped { IfErr result (λ why. IsTrue D.told → (m : Machine) → IsShown self.old (D.state disk.old).block m → says_stop why ≡ true) }
     {
         disk.start(n);

@@ -87,6 +87,7 @@ impl Store {
         ensures down { OnErr result (node_at self.new.nodes t.node.0 ≡ Down) }
         ensures locks { OnOk result (self.new.shared.locks ≡ without_txn t self.old.shared.locks) }
         ensures shows { OnOk result (IsTrue D.told → (m : Machine) → IsShown self.old (D.state disk.old).block m → IsShown self.new (D.state disk.new).block (dos (Seal t ∷ Unlock t ∷ []) m)) }
+        ensures led { IsTrue D.told → (m : Machine) → m.reopening ≡ false → Endures self.old (D.state disk.old).block m → Led t.node.0 result (Seal t ∷ Unlock t ∷ []) m (Endures self.new (D.state disk.new).block) }
         ensures ring { IsTrue D.told → NarrowsToRing t.node.0 self.old.shape (D.state disk.old).block (D.state disk.new).block }
         ensures contents { OnOk result (IsTrue D.told → KeepsAllButLog t.node.0 self.old.shape (D.state disk.old).block (D.state disk.new).block) }
     {

@@ -8,6 +8,7 @@ use Rattle.sd_base.specs.Calls.{KeepsForeignBut, NoNewWriterBut}
 use Rattle.sd_base.specs.Shape.{disk_need, page_count}
 use Rattle.sd_base.specs.declared.device.NodeId.{NodeId}
 use Rattle.sd_base.specs.declared.names.PageNo.{PageNo}
+use Rattle.sd_base.specs.declared.shape.Shape.{Shape}
 use Rattle.sd_base.proofs.Positions.{find_all}
 use Rattle.frame_pool.specs.Frames.{frame_at}
 use Rattle.space_map.specs.Entry.{ident_of}
@@ -23,7 +24,7 @@ use Rattle.node_cache.proofs.OnePage.{found, head_pairs, is_page-other, is_page-
 use Rattle.node_cache.proofs.SamePages.{all_same, same_length}
 use Rattle.txn_core.specs.Seats.{SeatsState, txn_in}
 use Rattle.txn_core.specs.Told.{AreTold}
-use Rattle.record_machine.specs.Machine.{Machine}
+use Rattle.record_machine.specs.Machine.{Deed, Machine}
 use Rattle.record_machine.specs.Meaning.{Plain}
 use Rattle.store_nodes.specs.declared.node.Node.TheVariants.{Up}
 use Rattle.store_nodes.specs.declared.store.Store.{Store}
@@ -72,6 +73,23 @@ still_stable c d count was tail some none = by count some none
     by : (k : ℕ) → (1 ≤ k → d.log.stable ≡ c.log.tail) → (k ≡ 0 → d ≡ c) → d.log.stable ≡ d.log.tail
     by zero some none = subst (λ (e : CacheState). e.log.stable ≡ e.log.tail) (sym (none refl)) was
     by (suc k) some none = some (omega arith) ∙ sym tail
+
+-- ---- what the node shows
+
+-- a node that is up shows what it did, where no record and no page was changed
+pub up_kept : (s : Shape) (pool : List (Option (List ℕ))) (n : ℕ) (c d : CacheState) (seats : SeatsState) (b b' : ℕ → BlockState) (p : Plain) (m m' : Machine) → m'.start n ≡ m.start n → m'.pending n ≡ m.pending n → SamePages c.pages d.pages → SameLog c.log d.log → ((xs : List (List ℕ)) → IsLogOn c.log b xs → IsLogOn d.log b' xs)
+    → ShowsUp s pool n c seats b p m → ShowsUp s pool n d seats b' p m'
+up_kept s pool n c d seats b b' p m m' begins pending pages log records was =
+    let start : d.log.start ≡ c.log.start = log.start in
+    record {
+      records = record { legal = was.records.legal; on = records _ was.records.on };
+      told = subst (λ k. AreTold seats k (p.live n)) (sym start) was.told;
+      start = begins ∙ was.start ∙ sym start;
+      cached = all_same (λ q. Shows pool q.frame (image_in s p q.ticket.page)) c.pages d.pages pages was.cached;
+      lives = all_same (λ q. option_map ident_of q.entry ≡ option_map ident_of (entry_in s p q.ticket.page)) c.pages d.pages pages was.lives;
+      deeds = λ seat low. ap (λ ds. map (λ (e : Deed). e.number) (deeds_in seat ds)) pending ∙ subst (λ k. map (λ (e : Deed). e.number) (deeds_in seat (m.pending n)) ≡ numbers_of (6 * k) (p.live n) (txn_in seats seat)) (sym start) (was.deeds seat low);
+      within = subst (All (λ (e : Deed). e.seat < 8)) (sym pending) was.within;
+    }
 
 module _ (me : Store) (n i : ℕ) (c d : CacheState) (seats : SeatsState) (is : IsStore me) (place_is : IsPlace n) (at : i ≡ n - 1) (up : node_at me.nodes n ≡ Up c seats) where
   work : IsAtWork me.shape me.shared.pool me.shared.owners n c seats
@@ -223,17 +241,7 @@ module _ (me : Store) (n i : ℕ) (c d : CacheState) (seats : SeatsState) (is : 
               (find_all (λ r. r.changes ≢ None → Holds b' (page_place me.shape r.ticket.page) (frame_at me.shared.pool r.frame)) (is_page x) c.pages q here holds (λ none. let never : is_changed x c ≡ false = rw here (rw none refl) in cc))
 
       up_same : SamePages c.pages d.pages → SameLog c.log d.log → ((xs : List (List ℕ)) → IsLogOn c.log b xs → IsLogOn d.log b' xs) → ShowsUp me.shape me.shared.pool n d seats b' p m
-      up_same pages log records =
-          let start : d.log.start ≡ c.log.start = log.start in
-          record {
-            records = record { legal = mine.1.records.legal; on = records _ mine.1.records.on };
-            told = subst (λ k. AreTold seats k (p.live n)) (sym start) mine.1.told;
-            start = mine.1.start ∙ sym start;
-            cached = all_same (λ q. Shows me.shared.pool q.frame (image_in me.shape p q.ticket.page)) c.pages d.pages pages mine.1.cached;
-            lives = all_same (λ q. option_map ident_of q.entry ≡ option_map ident_of (entry_in me.shape p q.ticket.page)) c.pages d.pages pages mine.1.lives;
-            deeds = λ seat low. subst (λ k. map (λ e. e.number) (deeds_in seat (m.pending n)) ≡ numbers_of (6 * k) (p.live n) (txn_in seats seat)) (sym start) (mine.1.deeds seat low);
-            within = mine.1.within;
-          }
+      up_same pages log records = up_kept me.shape me.shared.pool n c d seats b b' p m m refl refl pages log records mine.1
 
       -- each page that no node has changed since is on it
       stored : NarrowsButPages me.shape c.log me.shared.pool c.pages b b' → ((x : PageNo) → x.0 < page_count me.shape → is_changed x c ≡ true → is_changed x d ≡ false → IsOnDisk me.shape b' p x)

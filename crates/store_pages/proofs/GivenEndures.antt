@@ -44,7 +44,7 @@ use Rattle.store_pages.proofs.ShownGiven.{clean_given, settled_given, up_given}
 use Rattle.store_pages.proofs.ShownTaken.{settled_clean}
 
 -- a page that is changed is among the pages that are written
-found_changed : (P : CachedPage → Type 0) (x : PageNo) (pages : List CachedPage) → is_some (option_and_then first_change (page_at x pages)) ≡ true → All P (cons_option (page_at x pages) []) → (q : CachedPage) × (q.ticket.page ≡ x) × (q.changes ≢ None) × P q
+pub found_changed : (P : CachedPage → Type 0) (x : PageNo) (pages : List CachedPage) → is_some (option_and_then first_change (page_at x pages)) ≡ true → All P (cons_option (page_at x pages) []) → (q : CachedPage) × (q.ticket.page ≡ x) × (q.changes ≢ None) × P q
 found_changed P x pages more all = by (page_at x pages) refl more all
   where
     some : (q : CachedPage) → is_some (first_change q) ≡ true → q.changes ≢ None
@@ -119,10 +119,10 @@ module _ (me : Store) (h : NodeId) (x : PageNo) (i : ℕ) (c d : CacheState) (se
   pub given_clean : m.reopening ≡ false → is_changed x c ≡ false → b' ≡ b → d.log.stable ≡ c.log.stable → EnduresAs S b' p (one (Drop x.0) m)
   given_clean unlost clean blocks stable =
       let settled : IsSettled me.nodes me.shared.owners x = settled_clean me h x c seats is place up (inr held) clean in
-      let was : TiesUp n c e.history = subst (λ o. TiesNode me.shape n o b e.history) up (e.tied.node n place low) in
+      let was : TiesUp n c seats e.history = subst (λ o. TiesNode me.shape n o b e.history) up (e.tied.node n place low) in
       given_with e.dirty e.history (λ y no. no) (e.clean unlost x within settled) e.lost
       (tied_with me.shape me.nodes n (Up d seats) b b' e.history e.history is.shared.eight place e.tied logs_left (λ k far. record { live = refl; stable = refl; first = refl })
-      (record { first = was.first ∙ ap (λ k. 6 * k) (sym same.start); stable = (let old = was.stable in let start = same.start in omega (arith, old, start, stable)) })
+      (record { first = was.first ∙ ap (λ k. 6 * k) (sym same.start); stable = (let old = was.stable in let start = same.start in omega (arith, old, start, stable)); latest = was.latest })
       (subst (λ a. (y : PageNo) → y.0 < page_count me.shape → TiesPage me.shape a e.history y) (sym blocks) e.tied.page)) e.survives
 
   -- one with changes is written

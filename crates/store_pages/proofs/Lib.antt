@@ -5,6 +5,7 @@ pub mod Stored
 pub mod Sure
 pub mod Flushed
 pub mod FlushedPages
+pub mod ForcedEndures
 pub mod LogReads
 pub mod FoundWrites
 pub mod Walks

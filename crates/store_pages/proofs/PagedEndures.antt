@@ -67,7 +67,7 @@ module _ (me : Store) (n i : ℕ) (c d : CacheState) (seats : SeatsState) (is : 
   mine : ShowsNode me.shape me.shared.pool n (Up c seats) b p m1
   mine = subst (λ o. ShowsNode me.shape me.shared.pool n o b p m1) up (e.nodes.node n place low)
 
-  was_tied : TiesUp n c h
+  was_tied : TiesUp n c seats h
   was_tied = subst (λ o. TiesNode me.shape n o b h) up (e.tied.node n place low)
 
   alive : AreLiving me.shape p
@@ -118,6 +118,7 @@ module _ (me : Store) (n i : ℕ) (c d : CacheState) (seats : SeatsState) (is : 
   done_tied w start stable = tied_with me.shape me.nodes n (Up d seats) b b' h (with_disk w.disk hw) is.shared.eight place e.tied others (λ k far. record { live = refl; stable = (others_logged k far).stable; first = refl }) (record {
     first = was_tied.first ∙ ap (λ k. 6 * k) (sym start);
     stable = (let all = whole_stable h n in omega (arith, all, live_long, long, start, stable));
+    latest = was_tied.latest;
   }) w.page
 
   -- ---- the node's port stopped in it
@@ -152,7 +153,7 @@ module _ (me : Store) (n i : ℕ) (c d : CacheState) (seats : SeatsState) (is : 
         → (cut : IsCutLog (region c.log) c.log.start c.log.stable bx (map record_text (h'.live n))) → h'.stable n ≤ cut.count → IsStill (region c.log) bx → KeepsForeign n bx b'' → ((x : PageNo) → x.0 < page_count me.shape → TiesPage me.shape b'' h' x) → SurvivesAs e.held dirty h' p m → Halts
     halts_with dirty h' bx cleaner lost logged first legal cut sure still settles page survives =
         may_halt_lacking me n c seats is place up nodes' eight' (others_stay me.nodes n (Up d seats) is.shared.eight place) b b'' p p m m e me.shared.pool dirty h' cut.count mine.0 refl refl refl lost (λ x. refl) others_then
-        (λ k k_is far j a below. refl) (λ k k_is far. record { live = refl; mode = refl; start = refl; pending = refl; images = λ j a below. refl; lives = λ j a below. refl }) logged e.lockers
+        (λ k k_is far j a below. refl) (λ k k_is far. record { live = refl; mode = refl; start = refl; pending = refl; images = λ j a below. refl; lives = λ j a below. refl }) logged (λ key t how has live far. e.lockers key t how has live)
         (λ unlost x inside at_rest. cleaner x.0 (clean_here unlost x inside at_rest))
         (place_cut me.shape n c bx b'' h' own first legal cut sure still settles) (down_tied me.shape n c bx b'' h' own first legal cut sure still settles) page survives
 
@@ -160,7 +161,7 @@ module _ (me : Store) (n i : ℕ) (c d : CacheState) (seats : SeatsState) (is : 
     halts_old : IsCutLog (region c.log) c.log.start c.log.stable b' (map record_text (p.live n)) → All (λ q. q.changes ≢ None → TiesPage me.shape b'' h q.ticket.page) pages → Halts
     halts_old cut old =
         let there : IsCutLog (region c.log) c.log.start c.log.stable b' (map record_text (h.live n)) = subst (λ l. IsCutLog (region c.log) c.log.start c.log.stable b' (map record_text l)) (sym (e.survives.survives.recoverable.live n)) cut in
-        halts_with e.dirty h b' (λ x was. was) e.lost (λ k far. record { live = refl; stable = refl; first = refl }) begins legal there (stable_cut n c b' h (map record_text (h.live n)) there was_tied) still stops
+        halts_with e.dirty h b' (λ x was. was) e.lost (λ k far. record { live = refl; stable = refl; first = refl }) begins legal there (stable_cut n c b' h (map record_text (h.live n)) there was_tied.stable) still stops
         (λ x inside. elim (ties_or_settled me.shape me.shared.pool c pages b b' h p work.store work.log_tie alive now_there within shown e.tied.page narrows b'' settled law single x inside) [
           | inl tie ↦ tie
           | inr one ↦ subst (TiesPage me.shape b'' h) one.4.1 (subst (λ (q : CachedPage). q.changes ≢ None → TiesPage me.shape b'' h q.ticket.page) one.3 (old one.0 one.1 one.2) one.4.0)

@@ -1,10 +1,12 @@
 //! The command `flush`: a node's log is made stable, and then the pages that it has changed are written.
 
-ghost use Rattle.std.specs.Prelude.{◌≡◌, ◌≤◌, true, IsTrue, IfErr, IfOk, OnErr, OnOk};
+ghost use Rattle.std.specs.Prelude.{◌≡◌, ◌≤◌, ◌∷◌, [], true, false, IsTrue, IfErr, IfOk, OnErr, OnOk};
 ghost use Rattle.sd_base.specs.Calls.{Narrows};
+ghost use Rattle.record_machine.specs.Led.{Led};
 ghost use Rattle.record_machine.specs.Machine.{Machine};
 ghost use Rattle.record_machine.specs.Parts.{Sure, one};
 ghost use Rattle.store_nodes.specs.declared.node.Node.TheVariants.{Down};
+ghost use Rattle.store_nodes.specs.Endures.{Endures};
 ghost use Rattle.store_pages.specs.Flushes.{HoldsChanged, KeepsAllButChanged, KeepsOthers, NarrowsNoOthers, NarrowsToChanged};
 ghost use Rattle.store_nodes.specs.Footprint.{KeepsAllButLog, NarrowsToRing};
 ghost use Rattle.store_nodes.specs.Nodes.{IsPlace, OnUp, is_up, node_at};
@@ -41,6 +43,7 @@ fn force<D: Disk, V: Disk>(
     ensures ring { IsTrue D.told → NarrowsToRing n.0 store.old.shape (D.state disk.old).block (D.state disk.new).block }
     ensures contents { OnOk result (IsTrue D.told → KeepsAllButLog n.0 store.old.shape (D.state disk.old).block (D.state disk.new).block) }
     ensures shows { OnOk result (IsTrue D.told → (m : Machine) → IsShown store.old (D.state disk.old).block m → IsShown store.new (D.state disk.new).block (one (Sure n.0) m)) }
+    ensures led { IsTrue D.told → (m : Machine) → m.reopening ≡ false → Endures store.old (D.state disk.old).block m → Led n.0 result (Sure n.0 ∷ []) m (Endures store.new (D.state disk.new).block) }
 {
     let fault = match &mut store.nodes[place(n)] {
         Node::Up(cache, _seats) => {

@@ -1,5 +1,6 @@
 use Rattle.record_machine.proofs.DeedStops.{back_survives, begun_survives, changed_survives}
 use Rattle.record_machine.proofs.DroppedStops.{dropped_survives}
+use Rattle.record_machine.proofs.EndStops.{ended_survives}
 use Rattle.record_machine.proofs.SealStops.{aborted_survives, committed_survives}
 use Rattle.record_machine.proofs.StillStops.{forced_survives, formatted_survives, locked_survives, started_survives, sure_survives, unlocked_survives, written_survives}
 use Rattle.record_machine.proofs.TakenStops.{taken_survives}
@@ -23,4 +24,5 @@ returns c = record {
   back = back_survives;
   committed = committed_survives;
   aborted = aborted_survives;
+  ended = ended_survives;
 }

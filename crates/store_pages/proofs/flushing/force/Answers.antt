@@ -1,11 +1,19 @@
-use Rattle.std.specs.Prelude.{◌≡◌, true, false, map, slice_set, refl}
-use Rattle.std.proofs.Common.{ap, sym, ◌∙◌}
+use Rattle.std.specs.Prelude.{◌≡◌, ◌∷◌, [], true, false, map, slice_set, refl}
+use Rattle.std.proofs.Common.{ap, subst, sym, ◌∙◌}
+use Rattle.sd_base.specs.Faults.{IsStopOf}
+use Rattle.sd_base.specs.Shape.{first_page}
+use Rattle.record_machine.specs.Led.{LedErr}
+use Rattle.record_machine.specs.Parts.{Sure, one}
 use Rattle.node_cache.specs.Cache.{written_back}
 use Rattle.store_nodes.specs.declared.node.Node.TheVariants.{Up}
+use Rattle.store_nodes.specs.Endures.{Endures, MayHalt, with_held}
 use Rattle.store_nodes.specs.Pages.{KeepsPages}
+use Rattle.store_nodes.specs.Shows.{ShowsNode}
+use Rattle.store_nodes.proofs.Broken.{broke_here, led_fault, no_unlock, of_stop}
 use Rattle.store_pages.proofs.Flushed.{alone_forced, besides_flushed, but_flushed, foreign_forced, on_both, on_now, pages_forced, quiet_but_flushed, quiet_flushed, ring_forced, shows_flushed, store_flushed, work_kept}
 use Rattle.store_nodes.proofs.Logs as logs
 use Rattle.store_nodes.proofs.ShownWith.{changed_same}
+use Rattle.store_pages.proofs.ForcedEndures.{forced_endures, forced_halts}
 use Rattle.store_pages.proofs.Sure.{shown_sure}
 use Rattle.store_pages.proofs.flushing.force.Goals as goal
 
@@ -195,3 +203,40 @@ returns-in-Ok-clause-shows g c = λ told m shown.
         reopening = shown.1.reopening;
       },
     )
+
+pub returns-in-Ok-clause-led : goal.returns-in-Ok-clause-led
+returns-in-Ok-clause-led g c = λ told m open_still was.
+    let me = c.args.store.now in
+    let n = c.args.n.0 in
+    let i = c.place.result in
+    let k = c.in-Up.cache in
+    let d = c.force-done.new.self in
+    let seats = c.in-Up._seats in
+    let is = c.requires.ready.is in
+    let up = logs.up_at me n i c.index-store-place.result k seats is c.requires.node c.place.ensures.is c.in-Up.is in
+    let a = (g.D.Disk.state c.args.disk.now).block in
+    let b = (g.D.Disk.state c.force-done.new.disk).block in
+    logs.there me n i k d seats seats is c.requires.node c.place.ensures.is up (λ os. Endures (record { shape = me.shape; shared = me.shared; nodes = os }) b (one (Sure n) m))
+    (forced_endures me n i k d seats is c.requires.node c.place.ensures.is up a b m was (c.force-done.ensures.outcomes told) (c.force-done.ensures.foreign told) (c.requires.quiet told) c.force-done.ensures.pages c.force-done.ensures.same c.in-Ok.ensures.stable (c.in-Ok.ensures.log told))
+
+pub returns-clause-led : goal.returns-clause-led
+returns-clause-led g c = λ told m open_still was.
+    let me = c.args.store.now in
+    let n = c.args.n.0 in
+    let i = c.place.result in
+    let k = c.in-Up.cache in
+    let d = c.force-done.new.self in
+    let seats = c.in-Up._seats in
+    let is = c.requires.ready.is in
+    let up = logs.up_at me n i c.index-store-place.result k seats is c.requires.node c.place.ensures.is c.in-Up.is in
+    let a = (g.D.Disk.state c.args.disk.now).block in
+    let b = (g.D.Disk.state c.force-done.new.disk).block in
+    let b2 = (g.D.Disk.state c.give_up.new.disk).block in
+    let work = logs.work me n i k d seats seats is c.requires.node c.place.ensures.is up in
+    let stop = subst (λ j. IsStopOf j c.in-Err.fault) work.number c.in-Err.ensures.fault in
+    let mine = subst (λ o. ShowsNode me.shape me.shared.pool n o a was.0 (with_held was.1.held m)) up (was.1.nodes.node n c.requires.node (logs.low me n i k d seats seats is c.requires.node c.place.ensures.is up)) in
+    let halts : MayHalt n (record { shape = me.shape; shared = me.shared; nodes = slice_set me.nodes i (Up d seats) }) b2 m = logs.there me n i k d seats seats is c.requires.node c.place.ensures.is up (λ os. MayHalt n (record { shape = me.shape; shared = me.shared; nodes = os }) b2 m)
+    (forced_halts me n i k d seats is c.requires.node c.place.ensures.is up a b m was (c.force-done.ensures.outcomes told) (c.force-done.ensures.foreign told) (c.requires.quiet told) b2 (c.give_up.ensures.outcomes told) (c.give_up.ensures.foreign told) (c.in-Err.ensures.cut told _ mine.1.records.on) (c.in-Err.ensures.still told)) in
+    subst (λ why. LedErr n why (Sure n ∷ []) m (Endures c.give_up.new.self b2)) (sym c.give_up.ensures.says)
+    (led_fault n (first_page me.shape) c.in-Err.fault (Sure n ∷ []) m (Endures c.give_up.new.self b2) stop
+    (broke_here n (Sure n ∷ []) 0 m (Endures c.give_up.new.self b2) (no_unlock [] refl) (of_stop n c.in-Err.fault _ stop c.give_up.ensures.led told m halts)))

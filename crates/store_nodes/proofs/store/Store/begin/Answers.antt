@@ -8,7 +8,7 @@ use Rattle.store_nodes.specs.Nodes.{OnUp}
 use Rattle.store_nodes.specs.Shows.{ShowsNode, ShowsStoreOf}
 use Rattle.record_machine.proofs.Put.{put_other}
 use Rattle.store_nodes.proofs.Broken.{broke_here, led_fault, no_unlock, of_stop}
-use Rattle.store_nodes.proofs.EnduresBegun.{lockers_begun, survives_begun}
+use Rattle.store_nodes.proofs.EnduresBegun.{latest_begun, lockers_begun, survives_begun}
 use Rattle.store_nodes.proofs.LoggedEndures.{logged_endures, logged_halts}
 use Rattle.store_nodes.proofs.Logs as logs
 use Rattle.store_nodes.proofs.Ties.{stable_cut}
@@ -154,7 +154,7 @@ returns-in-Ok-clause-led g c = λ told m open_still was.
       logs.there me n c.place.result k d seats after is c.requires.node c.place.ensures.is up (λ os. EnduresAs (record { shape = s; shared = me.shared; nodes = os }) b (logged n Begin p) (one (Began c.args.t) m))
           (logged_endures me n c.place.result k d seats after is c.requires.node c.place.ensures.is up a b p (logged n Begin p) m (one (Began c.args.t) m) e h' (c.begin-done.ensures.outcomes told) (c.begin-done.ensures.foreign told) (c.requires.quiet told) refl refl refl (λ x. refl) refl refl
           (logged_others s me.nodes n Begin p m1 (one (Began c.args.t) m1) (λ j far. (refl, refl, put_other n _ m.pending j far))) (λ j far. record { live = with_record-other n Begin e.history.live j far; stable = refl; first = refl })
-          mine.0 c.begin-done.ensures.pages c.begin-done.ensures.same refl c.in-Ok.ensures.rises (lockers_begun me a p m c.args.t k seats is c.requires.node low up e (sym e.reopening ∙ open_still) c.requires.seat idle room) refl
+          mine.0 c.begin-done.ensures.pages c.begin-done.ensures.same refl c.in-Ok.ensures.rises (latest_begun me a p m c.args.t k seats is c.requires.node low up e (sym e.reopening ∙ open_still) c.requires.seat idle room after c.in-Ok.ensures.seats) (lockers_begun me a p m c.args.t k seats is c.requires.node low up e (sym e.reopening ∙ open_still) c.requires.seat idle room) refl
           (up_begun n s me.shared.pool k d seats after a b p m1 c.args.t work.eight refl c.requires.seat idle e.nodes.means.logs c.begin-done.ensures.pages c.begin-done.ensures.same c.in-Ok.ensures.seats (c.in-Ok.ensures.records told _ mine.1.records)
           (c.in-Ok.ensures.told _ (length_shown n s me.shared.pool k seats a p m1 mine.1) mine.1.told) mine.1)
           (survives_begun me a p m c.args.t k seats is c.requires.node low up e (sym e.reopening ∙ open_still) c.requires.seat idle room)),
@@ -193,7 +193,7 @@ returns-clause-led g c = λ told m open_still was.
       logs.there me n c.place.result k d seats after is c.requires.node c.place.ensures.is up (λ os. MayHaltAs n (record { shape = s; shared = me.shared; nodes = os }) b2 (logged n Begin p) (one (Began c.args.t) m))
           (logged_halts me n c.place.result k d seats after is c.requires.node c.place.ensures.is up a b p (logged n Begin p) m (one (Began c.args.t) m) e h' (c.begin-done.ensures.outcomes told) (c.begin-done.ensures.foreign told) (c.requires.quiet told) refl refl refl (λ x. refl) refl refl
           (logged_others s me.nodes n Begin p m1 (one (Began c.args.t) m1) (λ j far. (refl, refl, put_other n _ m.pending j far))) (λ j far. record { live = with_record-other n Begin e.history.live j far; stable = refl; first = refl })
-          b2 mine.0 (c.give_up.ensures.outcomes told) (c.give_up.ensures.foreign told) legal cut (stable_cut n k b h' _ cut (record { first = tied.first; stable = tied.stable })) (c.in-Err.ensures.still told)
+          b2 mine.0 (c.give_up.ensures.outcomes told) (c.give_up.ensures.foreign told) legal cut (stable_cut n k b h' _ cut tied.stable) (c.in-Err.ensures.still told)
           (lockers_begun me a p m c.args.t k seats is c.requires.node low up e (sym e.reopening ∙ open_still) c.requires.seat idle room) refl
           (survives_begun me a p m c.args.t k seats is c.requires.node low up e (sym e.reopening ∙ open_still) c.requires.seat idle room)),
     ) in

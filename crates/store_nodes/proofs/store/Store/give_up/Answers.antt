@@ -1,11 +1,10 @@
 use Rattle.std.proofs.Common.{IsTrue, inl, inr, subst, subst₂, sym}
-use Rattle.sd_base.specs.declared.fault.DevFault.{DevFault}
-use Rattle.sd_base.specs.declared.fault.DevFault.TheVariants.{Stopped, Failed, Lost, Damaged}
 use Rattle.sd_base.specs.Faults.{OnStop}
 use Rattle.record_machine.specs.Machine.{Machine}
 use Rattle.store_nodes.specs.Endures.{Endures, MayHalt, Stops}
 use Rattle.state_ids.specs.Blocks.{UnlessStopped}
 use Rattle.store_nodes.specs.Ports.{IsQuiet}
+use Rattle.store_nodes.proofs.Broken.{on_stop}
 use Rattle.store_nodes.proofs.store.Store.give_up.Goals as goal
 use Rattle.store_nodes.proofs.store.Store.give_up.Goals.{in-Stopped, in-Lost}
 
@@ -20,13 +19,6 @@ returns-clause-quiet g c = λ told. elim c.match-fault.branch [
       ] in
       subst₂ (λ o d. IsQuiet o (g.D.Disk.state d).block) (sym w.self-is) (sym w.disk-is) quiet
 ]
-
--- what holds in any case holds on a stop
-on_stop : (f : DevFault) (P : Type 0) → P → OnStop f P
-on_stop (Stopped n) P was = was
-on_stop (Failed n) P was = was
-on_stop (Lost at) P was = tt
-on_stop (Damaged at) P was = tt
 
 pub returns-clause-led : goal.returns-clause-led
 returns-clause-led g c =

@@ -1,16 +1,21 @@
-use Rattle.std.proofs.Common.{◌≡◌, ℕ, List, ap, subst, sym, ◌∙◌}
-use Rattle.sd_base.specs.Calls.{Keeps-then, NoNewWriter}
+use Rattle.std.proofs.Common.{◌≡◌, ◌∷◌, [], ℕ, List, ap, map, refl, subst, sym, ◌∙◌}
+use Rattle.sd_base.specs.Calls.{Keeps-then, KeepsForeign, NoNewWriter}
 use Rattle.sd_base.specs.Disk.{BlockState}
 use Rattle.sd_base.specs.declared.device.NodeId.{NodeId}
+use Rattle.log_record.specs.Text.{record_text}
 use Rattle.private_log.specs.Content.{HasNoFuture, LogContent, region_of}
 use Rattle.private_log.specs.Log.{IsLogOn, region}
 use Rattle.private_log.specs.Reading.{contents}
 use Rattle.private_log.specs.Spread.{IsStill}
+use Rattle.record_machine.specs.Led.{LedErr}
 use Rattle.record_machine.specs.Parts.{Start, one}
 use Rattle.store_nodes.specs.declared.node.Node.TheVariants.{Up}
+use Rattle.store_nodes.specs.Endures.{Endures, EnduresAs, with_held}
 use Rattle.store_nodes.specs.Nodes.{IsStoreOf, with_node}
 use Rattle.store_nodes.specs.Ports.{IsQuietOf}
-use Rattle.store_nodes.specs.Shows.{ShowsStoreOf}
+use Rattle.store_nodes.specs.Shows.{ShowsNode, ShowsStoreOf}
+use Rattle.store_nodes.proofs.Broken.{broke_here, led_read, no_unlock, of_stop}
+use Rattle.store_nodes.proofs.EnduresStarted.{idle_left, started_endures, started_halts}
 use Rattle.store_nodes.proofs.Started.{moved, quiet_read, quiet_started, shown_started, store_started, works_started}
 use Rattle.store_nodes.proofs.store.Store.start.Goals as goal
 
@@ -78,3 +83,48 @@ returns-in-Ok-clause-shows g c = λ told m shown_by.
         reopening = was.reopening ∙ ap (λ h. h.reopening) (sym c.bring_up.ensures.shared);
       },
     )
+
+pub returns-in-Ok-clause-led : goal.returns-in-Ok-clause-led
+returns-in-Ok-clause-led g c = λ told m open_still was.
+    let p = was.0 in
+    let me = c.args.self.now in
+    let s = me.shape in
+    let n = c.args.n.0 in
+    let log = c.in-Ok.log in
+    let cache = c.new-cache.result in
+    let seats = c.new.result in
+    let b = (g.D.Disk.state c.start.new.self).block in
+    let d = (g.D.Disk.state c.attach.new.disk).block in
+    let read_is : d ≡ b = c.in-Ok.ensures.blocks told in
+    let log_is : cache.log ≡ log = c.new-cache.ensures.log in
+    let region_is = ap region log_is ∙ ap (λ t. region_of t log.node.0) c.in-Ok.ensures.shape ∙ ap (λ (k : NodeId). region_of s k.0) c.in-Ok.ensures.node in
+    let read = c.in-Ok.ensures.log told in
+    let content = subst (λ l. LogContent (region_of s n) (contents d) l.start read.records) (sym log_is) (subst (λ (e : ℕ → BlockState). LogContent (region_of s n) (contents e) log.start read.records) (sym read_is) read.content) in
+    let on = subst (λ l. (start : ℕ) (xs : List (List ℕ)) → IsStill (region l) d → LogContent (region l) (contents d) start xs → HasNoFuture (region l) (contents d) start xs → IsLogOn l d xs) (sym log_is)
+    (subst (λ (e : ℕ → BlockState). (start : ℕ) (xs : List (List ℕ)) → IsStill (region log) e → LogContent (region log) (contents e) start xs → HasNoFuture (region log) (contents e) start xs → IsLogOn log d xs) (sym read_is) (c.in-Ok.ensures.on told)) in
+    let before = subst (λ (e : ℕ → BlockState). EnduresAs me e p m) (sym (read_is ∙ c.start.ensures.blocks told)) was.1 in
+    let stable = subst (λ l. l.stable ≡ l.tail) (sym log_is) c.in-Ok.ensures.stable in (
+      p,
+      moved me c.bring_up.new.self n cache seats c.bring_up.ensures.shape c.bring_up.ensures.shared c.bring_up.ensures.nodes (λ t h os. EnduresAs (record { shape = t; shared = h; nodes = os }) d p (one (Start n) m))
+          (started_endures me n c.requires.ready.is c.requires.node c.requires.known c.requires.idle d d (λ k. refl) p m before (sym before.reopening ∙ open_still) cache seats (ap (λ (k : NodeId). k.0) c.new-cache.ensures.node) c.new-cache.ensures.pages c.new.ensures.seats region_is read.records content on stable),
+    )
+
+pub returns-in-Err-clause-led : goal.returns-in-Err-clause-led
+returns-in-Err-clause-led g c = λ told m open_still was.
+    let p = was.0 in
+    let e = was.1 in
+    let me = c.args.self.now in
+    let n = c.args.n.0 in
+    let a = (g.D.Disk.state c.args.disk.now).block in
+    let b = (g.D.Disk.state c.start.new.self).block in
+    let d = (g.D.Disk.state c.attach.new.disk).block in
+    let b2 = (g.D.Disk.state c.leave_out.new.disk).block in
+    let start_is : b ≡ a = c.start.ensures.blocks told in
+    let mine = subst (λ o. ShowsNode me.shape me.shared.pool n o a p (with_held e.held m)) c.requires.idle (e.nodes.node n c.requires.node c.requires.known) in
+    let stop = c.in-Err.ensures.legal told (m.start n) (map record_text (p.live n)) (subst (λ (f : ℕ → BlockState). LogContent (region_of me.shape n) (contents f) (m.start n) (map record_text (p.live n))) (sym start_is) mine.1.content) in
+    let left = idle_left me n a d b2 c.requires.idle (c.requires.quiet told) (subst (λ f. KeepsForeign n f d) start_is (c.attach.ensures.foreign told)) (c.leave_out.ensures.foreign told) in
+    let S = Endures c.leave_out.new.self b2 in
+    subst (λ why. LedErr n why (Start n ∷ []) m S) (sym c.leave_out.ensures.says)
+    (led_read n c.in-Err.fault (Start n ∷ []) m S stop
+    (broke_here n (Start n ∷ []) 1 m S (no_unlock (Start n ∷ []) refl) (of_stop n c.in-Err.fault _ stop c.leave_out.ensures.led told (one (Start n) m)
+    (p, started_halts me n c.requires.ready.is c.requires.node c.requires.known c.requires.idle a b2 left p m e (sym e.reopening ∙ open_still)))))

@@ -1,5 +1,5 @@
 -- Whether a transaction is open is what the machine says.
-use Rattle.std.specs.Prelude.{◌≡◌, ◌≢◌, ◌==◌, ◌||◌, ◌*◌, ◌<◌, ◌∷◌, [], ℕ, Bool, true, false, List, Option, Some, None, All, IfSome, is_none, is_some, length, map, reverse, refl}
+use Rattle.std.specs.Prelude.{◌≡◌, ◌≢◌, ◌==◌, ◌||◌, ◌*◌, ◌<◌, ◌∷◌, [], ℕ, Bool, true, false, List, Option, Some, None, All, IfSome, filter, is_none, is_some, length, map, reverse, refl}
 use Rattle.std.specs.List.{list_any}
 use Rattle.std.proofs.Common.{arith, ap, subst, sym, ◌∙◌}
 use Rattle.std.proofs.lemmas.List.Elements.{All-filter, All-head}
@@ -56,3 +56,24 @@ busy_shown s pool c seats b p m t low eight logs up =
         let opened : IsOpenIn (6 * c.log.start) (p.live n) txn = subst (λ o. IfSome o (IsOpenIn (6 * c.log.start) (p.live n))) is (up.told.each t.seat None (omega (arith, low, eight))) in
         let begins : record_at (6 * m.start n) (p.live n) d.number ≡ Some Begin = ap (λ k. record_at (6 * k) (p.live n) d.number) up.start ∙ ap (record_at (6 * c.log.start) (p.live n)) first ∙ opened.chained.begun in
         ap (λ b. b || list_any (λ (d : Deed). is_none d.write) ds) (began (6 * m.start n) (p.live n) d (All-head (Stands (6 * m.start n) (p.live n)) d ds stands) begins)
+
+-- and which record began it
+pub begun_shown : (s : Shape) (pool : List (Option (List ℕ))) (c : CacheState) (seats : SeatsState) (b : ℕ → BlockState) (p : Plain) (m : Machine) (t : TxnId) (u : OpenTxn) (begin : ℕ) → t.seat < 8 → length seats.seats ≡ 8 → AreLogs p m → ShowsUp s pool t.node.0 c seats b p m → txn_in seats t.seat ≡ Some u
+    → filter (λ (d : Deed). is_none d.write) (deeds_in t.seat (m.pending t.node.0)) ≡ record { number = begin; seat = t.seat; write = None } ∷ [] → begin ≡ u.begin
+begun_shown s pool c seats b p m t u begin low eight logs up busy begins =
+    by (deeds_in t.seat (m.pending n)) (All-filter (λ (d : Deed). d.seat == t.seat) (Stands (6 * m.start n) (p.live n)) (m.pending n) (all_stand (6 * m.start n) (p.live n) (λ seat. m.records) (m.pending n) (logs.deeds n)))
+    (up.deeds t.seat low ∙ ap (numbers_of (6 * c.log.start) (p.live n)) busy) begins
+  where
+    n : ℕ
+    n = t.node.0
+
+    by : (ds : List Deed) → All (Stands (6 * m.start n) (p.live n)) ds → map (λ (e : Deed). e.number) ds ≡ u.begin ∷ reverse (uncompensated u.begin (6 * c.log.start) (p.live n)) → filter (λ (d : Deed). is_none d.write) ds ≡ record { number = begin; seat = t.seat; write = None } ∷ [] → begin ≡ u.begin
+    by [] stands numbers begins = absurd cc
+    by (d ∷ ds) stands numbers begins =
+        let first : d.number ≡ u.begin = cc in
+        let opened : IsOpenIn (6 * c.log.start) (p.live n) u = subst (λ o. IfSome o (IsOpenIn (6 * c.log.start) (p.live n))) busy (up.told.each t.seat None (omega (arith, low, eight))) in
+        let stands_here : record_at (6 * m.start n) (p.live n) d.number ≡ Some Begin = ap (λ k. record_at (6 * k) (p.live n) d.number) up.start ∙ ap (record_at (6 * c.log.start) (p.live n)) first ∙ opened.chained.begun in
+        let none : is_none d.write ≡ true = began (6 * m.start n) (p.live n) d (All-head (Stands (6 * m.start n) (p.live n)) d ds stands) stands_here in
+        let one : d ∷ filter (λ (d : Deed). is_none d.write) ds ≡ record { number = begin; seat = t.seat; write = None } ∷ [] = rw none at begins in
+        let same : d ≡ record { number = begin; seat = t.seat; write = None } = cc in
+        sym (ap (λ (e : Deed). e.number) same) ∙ first
