@@ -42,6 +42,7 @@ pub mod LoggedStops
 pub mod StillStops
 pub mod WholeLogs
 pub mod LostTables
+pub mod LedBehind
 pub mod EndStops
 pub mod FewLoose
 pub mod TakenStops
