@@ -117,8 +117,8 @@ module _ (me : Store) (n i : ℕ) (c d : CacheState) (seats : SeatsState) (is : 
   pub done_tied : (w : AreWritten me.shape e.held e.dirty hw p m b' (λ q. ⊥) pages) → d.log.start ≡ c.log.start → d.log.stable ≡ c.log.tail → IsTied me.shape (with_node me.nodes n (Up d seats)) b' (with_disk w.disk hw)
   done_tied w start stable = tied_with me.shape me.nodes n (Up d seats) b b' h (with_disk w.disk hw) is.shared.eight place e.tied others (λ k far. record { live = refl; stable = (others_logged k far).stable; first = refl }) (record {
     first = was_tied.first ∙ ap (λ k. 6 * k) (sym start);
-    latest = was_tied.latest;
     stable = (let all = whole_stable h n in omega (arith, all, live_long, long, start, stable));
+    latest = was_tied.latest;
   }) w.page
 
   -- ---- the node's port stopped in it
@@ -153,7 +153,7 @@ module _ (me : Store) (n i : ℕ) (c d : CacheState) (seats : SeatsState) (is : 
         → (cut : IsCutLog (region c.log) c.log.start c.log.stable bx (map record_text (h'.live n))) → h'.stable n ≤ cut.count → IsStill (region c.log) bx → KeepsForeign n bx b'' → ((x : PageNo) → x.0 < page_count me.shape → TiesPage me.shape b'' h' x) → SurvivesAs e.held dirty h' p m → Halts
     halts_with dirty h' bx cleaner lost logged first legal cut sure still settles page survives =
         may_halt_lacking me n c seats is place up nodes' eight' (others_stay me.nodes n (Up d seats) is.shared.eight place) b b'' p p m m e me.shared.pool dirty h' cut.count mine.0 refl refl refl lost (λ x. refl) others_then
-        (λ k k_is far j a below. refl) (λ k k_is far. record { live = refl; mode = refl; start = refl; pending = refl; images = λ j a below. refl; lives = λ j a below. refl }) logged (λ key t how has up far. e.lockers key t how has up)
+        (λ k k_is far j a below. refl) (λ k k_is far. record { live = refl; mode = refl; start = refl; pending = refl; images = λ j a below. refl; lives = λ j a below. refl }) logged (λ key t how has live far. e.lockers key t how has live)
         (λ unlost x inside at_rest. cleaner x.0 (clean_here unlost x inside at_rest))
         (place_cut me.shape n c bx b'' h' own first legal cut sure still settles) (down_tied me.shape n c bx b'' h' own first legal cut sure still settles) page survives
 
