@@ -24,7 +24,7 @@ use Rattle.record_machine.proofs.Put.{put_other}
 use Rattle.store_nodes.specs.declared.node.Node.{Node}
 use Rattle.store_nodes.specs.declared.node.Node.TheVariants.{Down, Up}
 use Rattle.store_nodes.specs.declared.store.Store.{Store}
-use Rattle.store_nodes.specs.Endures.{AreBusy, AreClean, AreCleanBut, EnduresButAs, MayHaltAs, with_held}
+use Rattle.store_nodes.specs.Endures.{AreBusy, AreClean, AreCleanBut, Endures, EnduresBut, EnduresButAs, MayHaltAs, with_held}
 use Rattle.store_nodes.specs.Nodes.{IsAtWork, IsPlace, IsStore, IsStoreOf, KeepsFramesBut, node_at, with_node}
 use Rattle.store_nodes.specs.Ports.{IsQuiet}
 use Rattle.store_nodes.specs.Shows.{ShowsUp}
@@ -41,13 +41,38 @@ use Rattle.store_nodes.proofs.Works.{place_inside, up_most}
 
 -- ---- the pages that the disk may lack
 
--- A page that the node has changed is one of them, and so may one be that wasn't any that is settled.
+-- A page that the node has changed is one of them, and so may one have been that was settled.
 module _ (s : Shape) (pool : List (Option (List ℕ))) (owners : List Own) (nodes : List Node) (n : ℕ) (c d : CacheState) (seats after : SeatsState) (x : PageNo) (page : CachedPage) (number : ℕ)
     (is : IsStoreOf s pool owners nodes) (place : IsPlace n) (up : node_at nodes n ≡ Up c seats) (there : page_at x c.pages ≡ Some page) (pages : d.pages ≡ with_page x (changed_by number) c.pages) (dirty : ℕ → Bool) (m m' : Machine) (same : m'.reopening ≡ m.reopening) where
   pub clean_where_changed : AreCleanBut (Some x.0) s owners nodes dirty m → AreClean s owners (with_node nodes n (Up d after)) (put x.0 true dirty) m'
   clean_where_changed was whole y within settled =
       let at = settled_changed s pool owners nodes n c d seats after x page number is place up there pages y settled in
       put_other x.0 true dirty y.0 at.0 ∙ was (sym same ∙ whole) y within at.1 at.0
+
+  -- and so may another one be that is settled
+  pub clean_where_used : (y : ℕ) → AreClean s owners nodes dirty m → AreCleanBut (Some y) s owners (with_node nodes n (Up d after)) (put y true (put x.0 true dirty)) m'
+  clean_where_used y was whole z within settled far =
+      let at = settled_changed s pool owners nodes n c d seats after x page number is place up there pages z settled in
+      put_other y true (put x.0 true dirty) z.0 far ∙ put_other x.0 true dirty z.0 at.0 ∙ was (sym same ∙ whole) z within at.1
+
+-- a store that endures does so but for any page
+pub but_any : (y : ℕ) (c : Store) (b : ℕ → BlockState) (m : Machine) → Endures c b m → EnduresBut y c b m
+but_any y c b m was = (
+  was.0,
+  record {
+    held = was.1.held;
+    dirty = was.1.dirty;
+    history = was.1.history;
+    nodes = was.1.nodes;
+    locks = was.1.locks;
+    reopening = was.1.reopening;
+    lockers = was.1.lockers;
+    clean = λ whole x within settled far. was.1.clean whole x within settled;
+    lost = was.1.lost;
+    tied = was.1.tied;
+    survives = was.1.survives;
+  },
+)
 
 -- ---- the store
 

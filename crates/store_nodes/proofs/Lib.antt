@@ -21,6 +21,7 @@ pub mod RoomShown
 pub mod ChangedEndures
 pub mod EnduresBegun
 pub mod EnduresChanged
+pub mod EnduresUsed
 pub mod EnduresEnded
 pub mod EnduresStarted
 pub mod ShownBegin

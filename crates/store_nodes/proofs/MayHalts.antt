@@ -85,6 +85,15 @@ module _ (me : Store) (n : ℕ) (c : CacheState) (seats : SeatsState) (is : IsSt
   clean_changed y dirty m cached was whole x within now =
       at_or_off (λ b. b ≡ false) y.0 true dirty x.0 (λ here. (let one : x ≡ y = ap (λ k. record { 0 = k }) here in let never : true ≡ false = sym cached ∙ ap (λ z. is_cached z c) (sym one) ∙ not_out x now in absurd cc)) (λ far. was whole x within now)
 
+  -- so it is where a page that the node holds is one of those that the disk may lack
+  holder_down : (own : Own) → holder own ≡ Some n → ¬ (IsHolderUp (with_node nodes' n Down) own)
+  holder_down Nobody holds now = absurd cc
+  holder_down (Parked k) holds now = let same : k.0 ≡ n = cc in far_off k.0 now same
+  holder_down (Out k) holds now = let same : k.0 ≡ n = cc in far_off k.0 now same
+
+  pub clean_held : (y : ℕ) (dirty : ℕ → Bool) (m : Machine) → holder (owner_of owners y) ≡ Some n → AreClean me.shape owners (with_node nodes' n Down) dirty m → AreClean me.shape owners (with_node nodes' n Down) (put y true dirty) m
+  clean_held y dirty m holds was whole x within now = at_or_off (λ b. b ≡ false) y true dirty x.0 (λ here. absurd (holder_down (owner_of owners x.0) (ap (λ k. holder (owner_of owners k)) here ∙ holds) now.holder)) (λ far. was whole x within now)
+
   -- ---- the whole
 
   module _ (b b' : ℕ → BlockState) (p p' : Plain) (m m' : Machine) {but : Option ℕ} (e : EnduresButAs but me b p m) (pool : List (Option (List ℕ))) (dirty : ℕ → Bool) (h' : History) (cut : ℕ) where

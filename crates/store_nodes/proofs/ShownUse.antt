@@ -29,7 +29,7 @@ use Rattle.txn_core.specs.Seats.{OpenTxn, SeatsState, txn_in}
 use Rattle.txn_core.specs.Told.{AreTold, HasRecords}
 use Rattle.txn_core.proofs.SeatLaws.{space_less}
 use Rattle.record_machine.specs.Machine.{Machine, free_place, home}
-use Rattle.record_machine.specs.Meaning.{Means, Plain, logged, with_map}
+use Rattle.record_machine.specs.Meaning.{IsUsed, Means, Plain, logged, with_map}
 use Rattle.record_machine.specs.Parts.{Use, one}
 use Rattle.record_machine.proofs.Put.{at_or_off, put_other, put_same}
 use Rattle.record_machine.proofs.Steps.{means_used}
@@ -70,17 +70,21 @@ only_map s p x map idents = record {
 pub only_used : (s : Shape) (p : Plain) (x : PageNo) (place : ℕ) (group : GroupNo) → OnlyPage s p (with_map x.0 (applied_map (ops.MapUse place group) (p.maps x.0)) p) x
 only_used s p x place group = only_map s p x (applied_map (ops.MapUse place group) (p.maps x.0)) (λ k. idents_set (p.maps x.0).entries place k (Used group (ident_of (slice_index_or (p.maps x.0).entries place (Free 0)))) refl)
 
+-- its entry is in use, and the map page has changed
+pub place_used : (p : Plain) (m : Machine) (map place : ℕ) (group : GroupNo) → map < m.shape.maps → Means p m → IsUsed m map place group (p.maps map) (applied_map (ops.MapUse place group) (p.maps map))
+place_used p m map place group near means = record {
+  page = refl;
+  ident = refl;
+  entries = ap (λ es. slice_set (p.maps map).entries place (Used group (ident_of (slice_index_or es place (Free 0))))) (means.pages.entries map near);
+}
+
 -- what a store means, where the place of the map page has come into use
 pub means_placed : (n : ℕ) (p : Plain) (m : Machine) (map : PageNo) (place key : ℕ) (group : GroupNo) (rec : LogRecord) → home m key ≡ None → free_place m key ≡ Some place → group_of key ≡ group → map_of_key m.shape key ≡ map.0 → map.0 < m.shape.maps → Means p m
     → Means (logged n rec (with_map map.0 (applied_map (ops.MapUse place group) (p.maps map.0)) p)) (one (Use n map.0 place group) m)
 means_placed n p m map place key group rec none free its_group its_map near means =
     subst (λ g. Means (logged n rec (with_map map.0 (applied_map (ops.MapUse place g) (p.maps map.0)) p)) (one (Use n map.0 place g) m)) its_group
     (subst (λ k. Means (logged n rec (with_map k (applied_map (ops.MapUse place (group_of key)) (p.maps k)) p)) (one (Use n k place (group_of key)) m)) its_map
-    (means_used p m n place key rec (applied_map (ops.MapUse place (group_of key)) (p.maps (map_of_key m.shape key))) none free (record {
-      page = refl;
-      ident = refl;
-      entries = ap (λ es. slice_set (p.maps (map_of_key m.shape key)).entries place (Used (group_of key) (ident_of (slice_index_or es place (Free 0))))) (means.pages.entries (map_of_key m.shape key) (subst (λ k. k < m.shape.maps) (sym its_map) near));
-    }) means))
+    (means_used p m n place key rec (applied_map (ops.MapUse place (group_of key)) (p.maps (map_of_key m.shape key))) none free (place_used p m (map_of_key m.shape key) place (group_of key) (subst (λ k. k < m.shape.maps) (sym its_map) near) means) means))
 
 -- ---- the node after it
 

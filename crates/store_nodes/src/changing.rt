@@ -3,7 +3,7 @@
 ghost use Rattle.std.specs.Prelude.{◌≡◌, ◌≤◌, ◌<◌, ◌+◌, ◌^◌, ◌∷◌, [], true, false, ℕ, None, Some, IsTrue, IsOk, IfErr, OnErr, OnOk};
 ghost use Rattle.sd_base.specs.Calls.{Narrows};
 ghost use Rattle.sd_base.specs.Shape.{page_count};
-ghost use Rattle.sd_base.specs.Places.{group_of, map_of_key, slot_of_key};
+ghost use Rattle.sd_base.specs.Places.{group_of, map_of_key, page_of_place, slot_of_key};
 ghost use Rattle.page_image.specs.declared.page_view.PageView.{PageView};
 ghost use Rattle.space_map.specs.Image.{MapImage};
 ghost use Rattle.private_log.specs.Log.{space};
@@ -11,7 +11,7 @@ ghost use Rattle.txn_core.specs.Seats.{is_busy, owed};
 ghost use Rattle.txn_core.specs.Updates.{FitsSlotOf, HasPage};
 ghost use Rattle.record_locks.specs.declared.mode.Mode.TheVariants as locks;
 ghost use Rattle.record_locks.specs.Held.{mode_of};
-ghost use Rattle.record_machine.specs.Led.{Led};
+ghost use Rattle.record_machine.specs.Led.{Led, LedErr};
 ghost use Rattle.record_machine.specs.Machine.{Machine, Write, free_place, home, seen};
 ghost use Rattle.record_machine.specs.Parts.{Change as Changed, Use, one};
 ghost use Rattle.store_nodes.specs.declared.node.Node.TheVariants.{Down};
@@ -112,6 +112,10 @@ impl Store {
         ensures kept { OnOk result (OnUp (node_at self.old.nodes n.0) (λ c old. OnUp (node_at self.new.nodes n.0) (λ d new. UsesPlace self.old.shape.maps self.old.shared.pool self.new.shared.pool c d old new))) }
         ensures shows { OnOk result (IsTrue D.told → (m : Machine) (key : ℕ) → home m key ≡ None → free_place m key ≡ Some place → group_of key ≡ group → map_of_key m.shape key ≡ map.0
             → IsShown self.old (D.state disk.old).block m → IsShown self.new (D.state disk.new).block (one (Use n.0 map.0 place group) m)) }
+        ensures led { OnOk result (IsTrue D.told → (m : Machine) (key : ℕ) → home m key ≡ None → free_place m key ≡ Some place → group_of key ≡ group → map_of_key m.shape key ≡ map.0 → m.hold (page_of_place m.shape map.0 place) ≡ Some n.0 → m.reopening ≡ false
+            → Endures self.old (D.state disk.old).block m → EnduresBut (page_of_place m.shape map.0 place) self.new (D.state disk.new).block (one (Use n.0 map.0 place group) m)) }
+        ensures broke { IfErr result (λ why. IsTrue D.told → (m : Machine) (key : ℕ) → home m key ≡ None → free_place m key ≡ Some place → group_of key ≡ group → map_of_key m.shape key ≡ map.0 → m.hold (page_of_place m.shape map.0 place) ≡ Some n.0 → m.reopening ≡ false
+            → Endures self.old (D.state disk.old).block m → LedErr n.0 why (Use n.0 map.0 place group ∷ []) m (Endures self.new (D.state disk.new).block)) }
         ensures pages { OnOk result (IsTrue D.told → KeepsCache n.0 self.old self.new (D.state disk.old).block (D.state disk.new).block) }
         ensures memory { FillsNoBlock self.old n.0 1 → (IsOk result) × (disk.new ≡ disk.old) × (vault.new ≡ vault.old) }
     {
