@@ -25,6 +25,8 @@ pub mod PageOutcomes
 pub mod PagedEndures
 pub mod GivenEndures
 pub mod ShownTaken
+pub mod FetchEndures
+pub mod FetchHalts
 pub mod WorksWith
 pub mod Passes
 pub mod TakenPages
