@@ -162,7 +162,7 @@ first P p ps h all (suc i) d below = all i d (omega (arith, below))
 count_first : (p : CachedPage) (ps : List CachedPage) → count_by has_changes (p ∷ ps) ≡ (if has_changes p then 1 else 0) + count_by has_changes ps
 count_first p ps = sum_by-cons (λ q. if has_changes q then 1 else 0) p ps
 
-unchanged : (pages : List CachedPage) → count_by has_changes pages ≡ 0 → All (λ p. has_changes p ≡ false) pages
+pub unchanged : (pages : List CachedPage) → count_by has_changes pages ≡ 0 → All (λ p. has_changes p ≡ false) pages
 unchanged [] none = λ i d below. absurd (omega (arith, below))
 unchanged (p ∷ ps) none = by (has_changes p) refl none (unchanged ps)
   where

@@ -97,8 +97,8 @@ module _ (me : Store) (n : ℕ) (c : CacheState) (seats : SeatsState) (is : IsSt
   -- ---- the whole
 
   module _ (b b' : ℕ → BlockState) (p p' : Plain) (m m' : Machine) {but : Option ℕ} (e : EnduresButAs but me b p m) (pool : List (Option (List ℕ))) (dirty : ℕ → Bool) (h' : History) (cut : ℕ) where
-    -- where a page whose block is lost is said to be gone
-    pub may_halt_lacking : m'.mode n ≡ machine.Up → m'.shape ≡ m.shape → m'.locks ≡ m.locks → m'.reopening ≡ m.reopening → AreGone me.shape h' m' → ((x : ℕ) → m'.hold x ≡ m.hold x)
+    -- where a page whose block is lost is said to be gone (a proof may look at the pages that the disk may lack)
+    unfoldable pub may_halt_lacking : m'.mode n ≡ machine.Up → m'.shape ≡ m.shape → m'.locks ≡ m.locks → m'.reopening ≡ m.reopening → AreGone me.shape h' m' → ((x : ℕ) → m'.hold x ≡ m.hold x)
         → ((k : ℕ) → IsPlace k → k ≤ me.shape.nodes → k ≢ n → LeavesRegion (region_of me.shape k) b b') → KeepsFramesBut n me.nodes me.shared.pool pool → ((k : ℕ) → IsPlace k → k ≢ n → LeavesNode me.shape k (node_at me.nodes k) p p' (with_held e.held m) (with_held e.held m')) → ((k : ℕ) → k ≢ n → LeavesLog k e.history h')
         → AreBusyBut n m' → AreClean me.shape owners (with_node nodes' n Down) dirty m' → IsPlaceToCut h' n cut → TiesStill me.shape n b' (stopped h' n cut) → ((x : PageNo) → x.0 < page_count me.shape → TiesPage me.shape b' h' x) → SurvivesAs e.held dirty h' p' m'
         → MayHaltAs n (record { shape = me.shape; shared = record { pool = pool; owners = owners; locks = me.shared.locks; reopening = me.shared.reopening }; nodes = nodes' }) b' p' m'

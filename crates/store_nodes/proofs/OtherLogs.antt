@@ -1,5 +1,5 @@
 -- What a call of one node leaves of the logs of the others.
-use Rattle.std.specs.Prelude.{◌≡◌, ◌≢◌, ◌+◌, ◌-◌, ◌/◌, ◌≤◌, ℕ, true, List, Option, Some, None}
+use Rattle.std.specs.Prelude.{◌≡◌, ◌≢◌, ◌+◌, ◌-◌, ◌/◌, ◌≤◌, ℕ, true, List, Option, Some, None, refl}
 use Rattle.std.proofs.Common.{arith, inl, inr, ap, subst, sym, ◌∙◌}
 use Rattle.sd_base.specs.Disk.{BlockState}
 use Rattle.sd_base.specs.Outcomes.{among}
@@ -27,6 +27,10 @@ pub record LeavesRegion (g : Region) (b b' : ℕ → BlockState) : Type 0 where
   pub narrows : NarrowsRegion g b b'
   pub keeps : KeepsRegion g b b'
   pub still : IsStill g b → IsStill g b'
+
+-- as it does where no block has changed
+pub region_same : (g : Region) (b : ℕ → BlockState) → LeavesRegion g b b
+region_same g b = record { narrows = λ i o low may. may; keeps = λ i low. refl; still = λ was. was }
 
 -- ---- what the device leaves of the others
 

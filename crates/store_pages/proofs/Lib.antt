@@ -26,6 +26,8 @@ pub mod PagedEndures
 pub mod GivenEndures
 pub mod FlushedEndures
 pub mod ShownTaken
+pub mod FetchEndures
+pub mod FetchHalts
 pub mod WorksWith
 pub mod Passes
 pub mod TakenPages

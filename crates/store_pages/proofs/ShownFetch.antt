@@ -22,7 +22,7 @@ use Rattle.node_cache.specs.Cache.{AreOut, CachedPage, CacheState, IsCache, IsOf
 use Rattle.node_cache.specs.Writes.{HoldsPages, NarrowsButPages}
 use Rattle.node_cache.specs.Room.{Arrived, IsEntryOf, freed, leaving, staying}
 use Rattle.node_cache.proofs.Arriving.{found_last}
-use Rattle.node_cache.proofs.Fetched.{changed_after, frames_stay, not_staying}
+use Rattle.node_cache.proofs.Fetched.{changed_after, frames_left, frames_stay, not_staying}
 use Rattle.node_cache.proofs.Leaving.{all_left, all_stay}
 use Rattle.node_cache.proofs.OnePage.{found, is_page-same}
 use Rattle.node_cache.proofs.Without.{shows_same}
@@ -107,6 +107,22 @@ up_fetched s pool new n x e c d seats b b' p m is store tie out law within disk 
       start = was.start ∙ sym start;
       cached = shown_stay s p x e c d pool new is out came was.cached (arrived_shows s p x e c d _ new b (law (page_place s x)) missing e_is came disk (not_staying s x c missing) image);
       lives = subst (All (λ q. option_map ident_of q.entry ≡ option_map ident_of (entry_in s p q.ticket.page))) (sym came.last) (All-push (λ q. option_map ident_of q.entry ≡ option_map ident_of (entry_in s p q.ticket.page)) (staying s x c.pages) _ (all_stay (λ q. option_map ident_of q.entry ≡ option_map ident_of (entry_in s p q.ticket.page)) s x c.pages was.lives) (ap (option_map ident_of) e_is));
+      deeds = λ seat low. subst (λ k. map (λ e. e.number) (deeds_in seat (m.pending n)) ≡ numbers_of (6 * k) (p.live n) (txn_in seats seat)) (sym start) (was.deeds seat low);
+      within = was.within;
+    }
+
+-- so it does where the page didn't come in
+pub up_missed : (s : Shape) (pool new : List (Option (List ℕ))) (n : ℕ) (x : PageNo) (c d : CacheState) (seats : SeatsState) (b b' : ℕ → BlockState) (p : Plain) (m : Machine) → IsCache c.node c.pages → SameLog c.log d.log → d.pages ≡ staying s x c.pages → new ≡ freed (leaving s x c.pages) pool
+    → ((xs : List (List ℕ)) → IsLogOn c.log b xs → IsLogOn d.log b' xs) → ShowsUp s pool n c seats b p m → ShowsUp s new n d seats b' p m
+up_missed s pool new n x c d seats b b' p m is same pages frees log was =
+    let start : d.log.start ≡ c.log.start = same.start in
+    record {
+      records = record { legal = was.records.legal; on = log _ was.records.on };
+      told = subst (λ k. AreTold seats k (p.live n)) (sym start) was.told;
+      start = was.start ∙ sym start;
+      cached = subst (λ frames. All (λ q. Shows frames q.frame (image_in s p q.ticket.page)) d.pages) (sym frees) (subst (All (λ q. Shows (freed (leaving s x c.pages) pool) q.frame (image_in s p q.ticket.page))) (sym pages)
+          (λ k f low. let q = slice_index_or (staying s x c.pages) k f in shows_same pool (freed (leaving s x c.pages) pool) q.frame (image_in s p q.ticket.page) (frames_left s x c.node c.pages pool is k f low) (all_stay (λ q. Shows pool q.frame (image_in s p q.ticket.page)) s x c.pages was.cached k f low)));
+      lives = subst (All (λ q. option_map ident_of q.entry ≡ option_map ident_of (entry_in s p q.ticket.page))) (sym pages) (all_stay (λ q. option_map ident_of q.entry ≡ option_map ident_of (entry_in s p q.ticket.page)) s x c.pages was.lives);
       deeds = λ seat low. subst (λ k. map (λ e. e.number) (deeds_in seat (m.pending n)) ≡ numbers_of (6 * k) (p.live n) (txn_in seats seat)) (sym start) (was.deeds seat low);
       within = was.within;
     }

@@ -84,7 +84,7 @@ settled_open me n x c seats is place up free missing = settled_clean me n x c se
 
 -- ---- a page that the node holds already
 
-node_taken : (s : Shape) (pool : List (Option (List ℕ))) (k : ℕ) (o : Node) (b : ℕ → BlockState) (p : Plain) (m : Machine) (x n : ℕ) → ShowsNode s pool k o b p m → ShowsNode s pool k o b p (one (Take x n) m)
+pub node_taken : (s : Shape) (pool : List (Option (List ℕ))) (k : ℕ) (o : Node) (b : ℕ → BlockState) (p : Plain) (m : Machine) (x n : ℕ) → ShowsNode s pool k o b p m → ShowsNode s pool k o b p (one (Take x n) m)
 node_taken s pool k Idle b p m x n was = (was.0, record { legal = was.1.legal; still = was.1.still; content = was.1.content; clean = was.1.clean; names = was.1.names; none = was.1.none })
 node_taken s pool k (Up c seats) b p m x n was = (was.0, record { records = was.1.records; told = was.1.told; start = was.1.start; cached = was.1.cached; lives = was.1.lives; deeds = was.1.deeds; within = was.1.within })
 node_taken s pool k Down b p m x n was = was

@@ -1,6 +1,6 @@
 //! A page that is nobody's, or a node's own, comes into the node's cache.
 
-ghost use Rattle.std.specs.Prelude.{◌≡◌, ◌<◌, ◌≤◌, true, IsTrue, IsOk, IfErr, OnOk};
+ghost use Rattle.std.specs.Prelude.{◌≡◌, ◌<◌, ◌≤◌, ◌∷◌, [], false, true, IsTrue, IsOk, IfErr, OnOk};
 ghost use Rattle.sd_base.specs.Calls.{Narrows};
 ghost use Rattle.sd_base.specs.Places.{map_of_data};
 ghost use Rattle.sd_base.specs.Shape.{page_count};
@@ -8,10 +8,12 @@ ghost use Rattle.space_map.specs.Image.{MapImage};
 ghost use Rattle.private_log.specs.Reading.{contents};
 ghost use Rattle.page_owner.specs.Owners.{owner_of};
 ghost use Rattle.node_cache.specs.Room.{IsEntryOf, IsOpenTo};
+ghost use Rattle.record_machine.specs.Led.{LedOnStop};
 ghost use Rattle.record_machine.specs.Machine.{Machine};
 ghost use Rattle.record_machine.specs.Parts.{Take, one};
 ghost use Rattle.store_nodes.specs.declared.node.Node.TheVariants.{Down};
 ghost use Rattle.store_nodes.specs.Causes.{IsFaultOfPage, IsToldOfPages};
+ghost use Rattle.store_nodes.specs.Endures.{Endures};
 ghost use Rattle.store_nodes.specs.Footprint.{KeepsHoldersBut, MadeRoom};
 ghost use Rattle.store_nodes.specs.Known.{held_in};
 ghost use Rattle.store_nodes.specs.Nodes.{IsPlace, OnUp, is_up, node_at};
@@ -54,6 +56,8 @@ pub(crate) fn fetch<D: Disk, V: Disk>(
     ensures holders { UnlessStop result ((y : PageNo) → held_in store.new y ≡ held_in store.old y) }
     ensures shows { OnOk result (IsTrue D.told → (m : Machine) → IsShown store.old (D.state disk.old).block m → IsShown store.new (D.state disk.new).block (one (Take x.0 n.0) m)) }
     ensures stopped { IfErr result (λ why. IsTrue D.told → (m : Machine) → IsShown store.old (D.state disk.old).block m → says_stop why ≡ true) }
+    ensures led { UnlessStop result (IsTrue D.told → (m : Machine) → m.reopening ≡ false → Endures store.old (D.state disk.old).block m → Endures store.new (D.state disk.new).block (one (Take x.0 n.0) m)) }
+    ensures halts { IfErr result (λ why. IsTrue D.told → (m : Machine) → m.reopening ≡ false → Endures store.old (D.state disk.old).block m → LedOnStop n.0 why (Take x.0 n.0 ∷ []) m (Endures store.new (D.state disk.new).block)) }
     ensures map { OnOk result (store.old.shape.maps ≤ x.0 → (image : MapImage) → ShowsMap store.old n.0 (map_of_data store.old.shape x) image → ShowsMap store.new n.0 (map_of_data store.old.shape x) image) }
     ensures cached { OnOk result (HasCached store.new n.0 x) }
     ensures made_room { OnOk result (IsTrue D.told → MadeRoom n.0 x store.old store.new (D.state disk.old).block (D.state disk.new).block) }

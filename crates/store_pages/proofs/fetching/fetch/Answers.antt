@@ -1,8 +1,8 @@
-use Rattle.std.specs.Prelude.{◌≡◌, ◌≢◌, ◌<◌, ◌≤◌, ℕ, Bool, true, false, IsTrue, Some, refl, length, slice_set}
+use Rattle.std.specs.Prelude.{◌≡◌, ◌≢◌, ◌<◌, ◌≤◌, ◌∷◌, [], ℕ, Bool, true, false, IsTrue, Some, None, Err, refl, length, slice_set}
 use Rattle.std.proofs.Common.{arith, inl, inr, ap, subst, subst₂, sym, ◌∙◌, length-set}
 use Rattle.sd_base.specs.Calls.{Keeps, Keeps-then}
 use Rattle.sd_base.specs.Disk.{IsFreeFor}
-use Rattle.sd_base.specs.Faults.{IsStopOf}
+use Rattle.sd_base.specs.Faults.{IsStopOf, StaysLive}
 use Rattle.sd_base.specs.Places.{map_of_data}
 use Rattle.sd_base.specs.Shape.{first_page, page_count}
 use Rattle.sd_base.specs.declared.device.NodeId.{NodeId}
@@ -11,7 +11,7 @@ use Rattle.page_owner.specs.declared.owners.Own.TheVariants.{Out, Parked}
 use Rattle.page_owner.specs.Owners.{owner_of}
 use Rattle.space_map.specs.Image.{MapImage}
 use Rattle.private_log.specs.Reading.{contents}
-use Rattle.state_ids.specs.Blocks.{page_place}
+use Rattle.state_ids.specs.Blocks.{IsPageFault, page_place}
 use Rattle.node_cache.specs.Cache.{is_cached}
 use Rattle.node_cache.specs.Room.{IsEntryOf, leaving}
 use Rattle.node_cache.specs.Writes.{KeepsContentsButPages}
@@ -19,26 +19,32 @@ use Rattle.node_cache.proofs.ChangedPages.{out_of_shown}
 use Rattle.node_cache.proofs.Fetched.{CacheRoom, room_arrived, room_hit}
 use Rattle.node_cache.proofs.Leaving.{all_left}
 use Rattle.node_cache.proofs.Parking.{length-parked}
+use Rattle.record_machine.specs.Led.{LedOnStop}
 use Rattle.record_machine.specs.Machine.{Machine, put}
 use Rattle.record_machine.specs.Parts.{Take, one}
 use Rattle.record_machine.proofs.Put.{put_other}
 use Rattle.store_nodes.specs.declared.node.Node.TheVariants.{Down, Up}
 use Rattle.store_nodes.specs.declared.store.Store.{Store}
 use Rattle.store_nodes.specs.Causes.{IsFaultOfPage, IsToldOfPages}
+use Rattle.store_nodes.specs.Endures.{Endures, EnduresAs, MayHalt, MayHaltAs}
 use Rattle.store_nodes.specs.Halting.{Halts}
 use Rattle.store_nodes.specs.Known.{held_in}
 use Rattle.store_nodes.specs.Nodes.{AreApart, IsStoreButOf, IsStoreOf, KeepsFramesBut, KeepsFramesOf, OnUp, OthersStay, is_up, node_at, pages_of, with_node}
 use Rattle.store_nodes.specs.Pages.{HasMap, KeepsWork}
 use Rattle.store_nodes.specs.Ports.{IsServedButOf, reply_to, says_stop}
 use Rattle.store_nodes.specs.Shows.{IsShown, ShowsStoreOf, holder}
+use Rattle.store_nodes.proofs.Broken.{broke_here, no_unlock, of_stop}
 use Rattle.store_nodes.proofs.Eight.{at_same, others_stay}
 use Rattle.store_nodes.proofs.Holders.{held_after, open_free}
 use Rattle.store_nodes.proofs.LogReplies.{where_live, where_stopped}
 use Rattle.store_nodes.proofs.Logs as logs
+use Rattle.store_pages.proofs.FetchEndures.{endures_again, endures_arrived, endures_missed, room_written}
+use Rattle.store_pages.proofs.FetchHalts.{fetch_halts}
 use Rattle.store_pages.proofs.MapStays.{map_kept}
 use Rattle.store_nodes.proofs.Others.{KeepsHeldBy}
 use Rattle.store_pages.proofs.PageCalls as calls
 use Rattle.store_pages.proofs.PageReplies.{block_kept, fault_says, never, stays_unless, stop_says, stop_then, told_says, unless, unless_then}
+use Rattle.store_pages.proofs.ReadEndures.{led_on_stop, log_shown, page_stop}
 use Rattle.store_pages.proofs.RoomMade.{made_room}
 use Rattle.store_pages.proofs.Shares.{store_worked}
 use Rattle.store_pages.proofs.ShownTaken.{holder_fetched, holder_missed, settled_open, shown_taken, store_again, store_taken}
@@ -88,13 +94,11 @@ fetch-done-requires-clause-page_reach g c =
 pub fetch-done-requires-clause-log_free : goal.fetch-done-requires-clause-log_free
 fetch-done-requires-clause-log_free g c = λ told.
     let me = c.args.store.now in
-    let s = me.shape in
     let n = c.args.n.0 in
     let is = c.requires.ready.is in
     let k = c.in-Up.cache in
     let seats = c.in-Up._seats in
     let up = logs.up_at me n c.place.result c.index-store-place.result k seats is c.requires.node c.place.ensures.is c.in-Up.is in
-    let work = logs.work me n c.place.result k k seats seats is c.requires.node c.place.ensures.is up in
     logs.region_free me n c.place.result k k seats seats is c.requires.node c.place.ensures.is up (g.D.Disk.state c.args.disk.now).block (c.requires.quiet told)
 
 pub fetch-done-requires-clause-page_free : goal.fetch-done-requires-clause-page_free
@@ -123,7 +127,6 @@ frames_of g c false fresh =
     let done = c.fetch-done in
     let seats = c.in-Up._seats in
     let up = logs.up_at me n c.place.result c.index-store-place.result k seats is c.requires.node c.place.ensures.is c.in-Up.is in
-    let work = logs.work me n c.place.result k k seats seats is c.requires.node c.place.ensures.is up in
     λ m other far. frames_arrived s c.args.x c.args.e k d me.shared.pool done.new.pool (pages_of (node_at me.nodes m)) (subst (λ ps. AreApart ps (pages_of (node_at me.nodes m))) (ap pages_of up) (is.shared.apart n m c.requires.node other (λ e. far (sym e)))) (out_at s me.shared.pool me.shared.owners m (node_at me.nodes m) (is.is m other)) (c.in-Ok.ensures.arrived fresh)
 
 store_of : (g : given.Over) (c : goal.In-Ok g) → (b : Bool) → is_cached c.args.x c.in-Up.cache ≡ b → IsStoreOf c.args.store.now.shape c.fetch-done.new.pool c.fetch-done.new.owners (with_node c.args.store.now.nodes c.args.n.0 (Up c.fetch-done.new.self c.in-Up._seats))
@@ -170,7 +173,6 @@ returns-in-Ok-clause-works g c =
     let done = c.fetch-done in
     let seats = c.in-Up._seats in
     let up = logs.up_at me n c.place.result c.index-store-place.result k seats is c.requires.node c.place.ensures.is c.in-Up.is in
-    let work = logs.work me n c.place.result k k seats seats is c.requires.node c.place.ensures.is up in
     logs.works_with me n c.place.result k d seats seats is c.requires.node c.place.ensures.is up (record { pool = done.new.pool; owners = done.new.owners; locks = me.shared.locks; reopening = me.shared.reopening }) (g.D.Disk.state c.args.disk.now) (g.D.Disk.state done.new.disk) (g.V.Disk.state c.args.vault.now)
     (subst (λ i. IsStoreOf s done.new.pool done.new.owners (slice_set me.nodes i (Up d seats))) (sym c.place.ensures.is) (store_of g c (is_cached c.args.x k) refl))
     (frames_of g c (is_cached c.args.x k) refl) done.ensures.keeps c.in-Ok.ensures.live c.requires.ready.served
@@ -194,15 +196,12 @@ returns-in-Ok-clause-writes g c = λ told.
 pub returns-in-Ok-clause-work : goal.returns-in-Ok-clause-work
 returns-in-Ok-clause-work g c =
     let me = c.args.store.now in
-    let s = me.shape in
     let n = c.args.n.0 in
     let is = c.requires.ready.is in
     let k = c.in-Up.cache in
     let d = c.fetch-done.new.self in
-    let done = c.fetch-done in
     let seats = c.in-Up._seats in
     let up = logs.up_at me n c.place.result c.index-store-place.result k seats is c.requires.node c.place.ensures.is c.in-Up.is in
-    let work = logs.work me n c.place.result k k seats seats is c.requires.node c.place.ensures.is up in
     record { locks = refl; reopening = refl; seats = calls.seats_kept me n c.place.result k d seats is c.requires.node c.place.ensures.is up }
 
 -- ---- where it gives up
@@ -226,7 +225,6 @@ give_up-requires-clause-is g c =
 pub give_up-requires-clause-quiet : goal.give_up-requires-clause-quiet
 give_up-requires-clause-quiet g c = λ told.
     let me = c.args.store.now in
-    let s = me.shape in
     let n = c.args.n.0 in
     let is = c.requires.ready.is in
     let k = c.in-Up.cache in
@@ -234,7 +232,6 @@ give_up-requires-clause-quiet g c = λ told.
     let done = c.fetch-done in
     let seats = c.in-Up._seats in
     let up = logs.up_at me n c.place.result c.index-store-place.result k seats is c.requires.node c.place.ensures.is c.in-Up.is in
-    let work = logs.work me n c.place.result k k seats seats is c.requires.node c.place.ensures.is up in
     let a = (g.D.Disk.state c.args.disk.now).block in
     let b = (g.D.Disk.state done.new.disk).block in
     calls.quiet_but_paged me n c.place.result k d seats is c.requires.node c.place.ensures.is up a b (done.ensures.writers told) (c.requires.quiet told)
@@ -260,7 +257,6 @@ give_up-requires-clause-ready g c =
 pub give_up-requires-clause-quiet_all : goal.give_up-requires-clause-quiet_all
 give_up-requires-clause-quiet_all g c =
     let me = c.args.store.now in
-    let s = me.shape in
     let n = c.args.n.0 in
     let is = c.requires.ready.is in
     let k = c.in-Up.cache in
@@ -268,7 +264,6 @@ give_up-requires-clause-quiet_all g c =
     let done = c.fetch-done in
     let seats = c.in-Up._seats in
     let up = logs.up_at me n c.place.result c.index-store-place.result k seats is c.requires.node c.place.ensures.is c.in-Up.is in
-    let work = logs.work me n c.place.result k k seats seats is c.requires.node c.place.ensures.is up in
     let a = (g.D.Disk.state c.args.disk.now).block in
     let b = (g.D.Disk.state done.new.disk).block in
     unless c.in-Err.fault (λ told. calls.quiet_paged me n c.place.result k d seats is c.requires.node c.place.ensures.is up a b (done.ensures.writers told) (c.requires.quiet told))
@@ -321,8 +316,6 @@ returns-clause-fault g c =
     let n = c.args.n.0 in
     let is = c.requires.ready.is in
     let k = c.in-Up.cache in
-    let d = c.fetch-done.new.self in
-    let done = c.fetch-done in
     let seats = c.in-Up._seats in
     let up = logs.up_at me n c.place.result c.index-store-place.result k seats is c.requires.node c.place.ensures.is c.in-Up.is in
     let work = logs.work me n c.place.result k k seats seats is c.requires.node c.place.ensures.is up in
@@ -335,7 +328,6 @@ returns-clause-told g c = λ told.
     let n = c.args.n.0 in
     let is = c.requires.ready.is in
     let k = c.in-Up.cache in
-    let d = c.fetch-done.new.self in
     let done = c.fetch-done in
     let seats = c.in-Up._seats in
     let up = logs.up_at me n c.place.result c.index-store-place.result k seats is c.requires.node c.place.ensures.is c.in-Up.is in
@@ -357,12 +349,9 @@ returns-clause-down g c = λ stops.
     let s = me.shape in
     let n = c.args.n.0 in
     let is = c.requires.ready.is in
-    let k = c.in-Up.cache in
     let d = c.fetch-done.new.self in
     let done = c.fetch-done in
     let seats = c.in-Up._seats in
-    let up = logs.up_at me n c.place.result c.index-store-place.result k seats is c.requires.node c.place.ensures.is c.in-Up.is in
-    let work = logs.work me n c.place.result k k seats seats is c.requires.node c.place.ensures.is up in
     let nodes = λ (h : Halts c.args.n (record { shape = s; shared = (record { pool = done.new.pool; owners = done.new.owners; locks = me.shared.locks; reopening = me.shared.reopening }); nodes = slice_set me.nodes c.place.result (Up d seats) }) c.give_up.new.self (g.D.Disk.state c.give_up.new.disk) (g.V.Disk.state c.give_up.new.vault)). h.nodes in
     where_stopped (first_page s) c.in-Err.fault (node_at c.give_up.new.self.nodes n ≡ Down) (subst (λ r. says_stop r ≡ true) c.give_up.ensures.says stops)
     (stop_then c.in-Err.fault _ _ c.give_up.ensures.halts (λ halts. ap (λ os. node_at os n) (nodes halts) ∙ at_same (slice_set me.nodes c.place.result (Up d seats)) n Down (length-set me.nodes c.place.result _ ∙ is.shared.eight) c.requires.node))
@@ -370,21 +359,17 @@ returns-clause-down g c = λ stops.
 pub returns-in-Ok-clause-cached : goal.returns-in-Ok-clause-cached
 returns-in-Ok-clause-cached g c =
     let me = c.args.store.now in
-    let s = me.shape in
     let n = c.args.n.0 in
     let is = c.requires.ready.is in
     let k = c.in-Up.cache in
     let d = c.fetch-done.new.self in
-    let done = c.fetch-done in
     let seats = c.in-Up._seats in
     let up = logs.up_at me n c.place.result c.index-store-place.result k seats is c.requires.node c.place.ensures.is c.in-Up.is in
-    let work = logs.work me n c.place.result k k seats seats is c.requires.node c.place.ensures.is up in
     subst (λ o. OnUp o (λ e those. IsTrue (is_cached c.args.x e))) (sym (calls.now_at me n c.place.result k d seats is c.requires.node c.place.ensures.is up)) c.in-Ok.ensures.cached
 
 pub returns-in-Ok-clause-hit : goal.returns-in-Ok-clause-hit
 returns-in-Ok-clause-hit g c = λ cached.
     let me = c.args.store.now in
-    let s = me.shape in
     let n = c.args.n.0 in
     let is = c.requires.ready.is in
     let k = c.in-Up.cache in
@@ -392,22 +377,18 @@ returns-in-Ok-clause-hit g c = λ cached.
     let done = c.fetch-done in
     let seats = c.in-Up._seats in
     let up = logs.up_at me n c.place.result c.index-store-place.result k seats is c.requires.node c.place.ensures.is c.in-Up.is in
-    let work = logs.work me n c.place.result k k seats seats is c.requires.node c.place.ensures.is up in
     let same = done.ensures.hit (subst (λ o. OnUp o (λ e those. IsTrue (is_cached c.args.x e))) up cached) in
     (refl, store_again me n c.place.result k d seats done.new.pool done.new.owners is c.requires.node c.place.ensures.is up same.2 same.3 same.1, same.4, refl)
 
 pub returns-clause-hit : goal.returns-clause-hit
 returns-clause-hit g c = λ cached.
     let me = c.args.store.now in
-    let s = me.shape in
     let n = c.args.n.0 in
     let is = c.requires.ready.is in
     let k = c.in-Up.cache in
-    let d = c.fetch-done.new.self in
     let done = c.fetch-done in
     let seats = c.in-Up._seats in
     let up = logs.up_at me n c.place.result c.index-store-place.result k seats is c.requires.node c.place.ensures.is c.in-Up.is in
-    let work = logs.work me n c.place.result k k seats seats is c.requires.node c.place.ensures.is up in
     absurd (never done.result c.in-Err.fault (done.ensures.hit (subst (λ o. OnUp o (λ e those. IsTrue (is_cached c.args.x e))) up cached)).0 c.in-Err.is)
 
 entry_of : (g : given.Over) (c : goal.In-Ok g) → IsEntryOf c.args.store.now.shape c.args.store.now.shared.pool c.in-Up.cache c.args.x c.args.e
@@ -419,7 +400,6 @@ entry_of g c =
     let k = c.in-Up.cache in
     let seats = c.in-Up._seats in
     let up = logs.up_at me n c.place.result c.index-store-place.result k seats is c.requires.node c.place.ensures.is c.in-Up.is in
-    let work = logs.work me n c.place.result k k seats seats is c.requires.node c.place.ensures.is up in
     subst (λ o. OnUp o (λ d those. IsEntryOf s me.shared.pool d c.args.x c.args.e)) up c.requires.entry
 
 abbrev After : (g : given.Over) (c : goal.In-Ok g) → Store
@@ -452,7 +432,6 @@ shows_of g c false fresh told m shown =
     let done = c.fetch-done in
     let seats = c.in-Up._seats in
     let up = logs.up_at me n c.place.result c.index-store-place.result k seats is c.requires.node c.place.ensures.is c.in-Up.is in
-    let work = logs.work me n c.place.result k k seats seats is c.requires.node c.place.ensures.is up in
     let a = (g.D.Disk.state c.args.disk.now).block in
     let b = (g.D.Disk.state done.new.disk).block in (
       shown.0,
@@ -477,11 +456,8 @@ returns-clause-stopped g c = λ told m shown.
     let n = c.args.n.0 in
     let is = c.requires.ready.is in
     let k = c.in-Up.cache in
-    let d = c.fetch-done.new.self in
-    let done = c.fetch-done in
     let seats = c.in-Up._seats in
     let up = logs.up_at me n c.place.result c.index-store-place.result k seats is c.requires.node c.place.ensures.is c.in-Up.is in
-    let work = logs.work me n c.place.result k k seats seats is c.requires.node c.place.ensures.is up in
     subst (λ r. says_stop r ≡ true) (sym c.give_up.ensures.says) (stop_says k.node.0 (first_page s) c.in-Err.fault (by told m shown (is_cached c.args.x k) refl))
   where
     by : IsTrue g.D.Disk.told → (m : Machine) → IsShown c.args.store.now (g.D.Disk.state c.args.disk.now).block m → (o : Bool) → is_cached c.args.x c.in-Up.cache ≡ o → IsStopOf c.in-Up.cache.node.0 c.in-Err.fault
@@ -492,11 +468,8 @@ returns-clause-stopped g c = λ told m shown.
         let n = c.args.n.0 in
         let is = c.requires.ready.is in
         let k = c.in-Up.cache in
-        let d = c.fetch-done.new.self in
-        let done = c.fetch-done in
         let seats = c.in-Up._seats in
         let up = logs.up_at me n c.place.result c.index-store-place.result k seats is c.requires.node c.place.ensures.is c.in-Up.is in
-        let work = logs.work me n c.place.result k k seats seats is c.requires.node c.place.ensures.is up in
         let place = page_place s c.args.x in
         let settled = settled_open me c.args.n c.args.x k seats is c.requires.node up c.requires.open fresh in
         let found = shown.1.nodes.stored c.args.x c.requires.page settled ((g.D.Disk.state c.args.disk.now).block place).current (g.met.D.Disk.lawful c.args.disk.now place told).current in
@@ -530,7 +503,6 @@ returns-in-Ok-clause-map g c = λ far image was.
     let done = c.fetch-done in
     let seats = c.in-Up._seats in
     let up = logs.up_at me n c.place.result c.index-store-place.result k seats is c.requires.node c.place.ensures.is c.in-Up.is in
-    let work = logs.work me n c.place.result k k seats seats is c.requires.node c.place.ensures.is up in
     let has = subst (λ o. OnUp o (λ e those. HasMap me.shared.pool e.pages (map_of_data s c.args.x) image)) up was in
     subst (λ o. OnUp o (λ e those. HasMap done.new.pool e.pages (map_of_data s c.args.x) image)) (sym (calls.now_at me n c.place.result k d seats is c.requires.node c.place.ensures.is up)) (map_of g c (is_cached c.args.x k) refl far image has)
 
@@ -556,7 +528,6 @@ room_of g c false fresh told =
 pub returns-in-Ok-clause-made_room : goal.returns-in-Ok-clause-made_room
 returns-in-Ok-clause-made_room g c = λ told.
     let me = c.args.store.now in
-    let s = me.shape in
     let n = c.args.n.0 in
     let is = c.requires.ready.is in
     let k = c.in-Up.cache in
@@ -564,7 +535,6 @@ returns-in-Ok-clause-made_room g c = λ told.
     let done = c.fetch-done in
     let seats = c.in-Up._seats in
     let up = logs.up_at me n c.place.result c.index-store-place.result k seats is c.requires.node c.place.ensures.is c.in-Up.is in
-    let work = logs.work me n c.place.result k k seats seats is c.requires.node c.place.ensures.is up in
     let a = (g.D.Disk.state c.args.disk.now).block in
     let b = (g.D.Disk.state done.new.disk).block in
     made_room c.args.x me (After g c) n k d seats seats a b up (calls.now_at me n c.place.result k d seats is c.requires.node c.place.ensures.is up) (room_of g c (is_cached c.args.x k) refl told)
@@ -580,7 +550,6 @@ returns-clause-work g c =
     let done = c.fetch-done in
     let seats = c.in-Up._seats in
     let up = logs.up_at me n c.place.result c.index-store-place.result k seats is c.requires.node c.place.ensures.is c.in-Up.is in
-    let work = logs.work me n c.place.result k k seats seats is c.requires.node c.place.ensures.is up in
     let kept : KeepsWork n me (record { shape = s; shared = (record { pool = done.new.pool; owners = done.new.owners; locks = me.shared.locks; reopening = me.shared.reopening }); nodes = slice_set me.nodes c.place.result (Up d seats) }) = record { locks = refl; reopening = refl; seats = calls.seats_kept me n c.place.result k d seats is c.requires.node c.place.ensures.is up } in
     λ live. subst (KeepsWork n me) (sym (where_live (first_page s) c.in-Err.fault _ (subst (λ r. says_stop r ≡ false) c.give_up.ensures.says live) c.give_up.ensures.kept).0) kept
 
@@ -602,7 +571,6 @@ give_up-requires-clause-served g c =
 holders_of : (g : given.Over) (c : goal.In-Ok g) → (b : Bool) → is_cached c.args.x c.in-Up.cache ≡ b → (y : PageNo) → held_in (After g c) y ≡ held_in c.args.store.now y
 holders_of g c true hit y =
     let me = c.args.store.now in
-    let s = me.shape in
     let n = c.args.n.0 in
     let is = c.requires.ready.is in
     let k = c.in-Up.cache in
@@ -615,7 +583,6 @@ holders_of g c true hit y =
     ap (λ v. held_in v y) (store_again me n c.place.result k d seats done.new.pool done.new.owners is c.requires.node c.place.ensures.is up same.2 same.3 same.1)
 holders_of g c false fresh y =
     let me = c.args.store.now in
-    let s = me.shape in
     let n = c.args.n.0 in
     let is = c.requires.ready.is in
     let k = c.in-Up.cache in
@@ -680,3 +647,144 @@ others_of g c false fresh y far =
 
 pub returns-in-Ok-clause-owners : goal.returns-in-Ok-clause-owners
 returns-in-Ok-clause-owners g c = others_of g c (is_cached c.args.x c.in-Up.cache) refl
+
+-- ---- what the store endures
+
+endures_of : (g : given.Over) (c : goal.In-Ok g) → (b : Bool) → is_cached c.args.x c.in-Up.cache ≡ b → IsTrue g.D.Disk.told → (m : Machine) → m.reopening ≡ false → Endures c.args.store.now (g.D.Disk.state c.args.disk.now).block m → Endures (After g c) (g.D.Disk.state c.fetch-done.new.disk).block (one (Take c.args.x.0 c.args.n.0) m)
+endures_of g c true hit told m unlost was =
+    let me = c.args.store.now in
+    let n = c.args.n.0 in
+    let is = c.requires.ready.is in
+    let k = c.in-Up.cache in
+    let d = c.fetch-done.new.self in
+    let done = c.fetch-done in
+    let seats = c.in-Up._seats in
+    let up = logs.up_at me n c.place.result c.index-store-place.result k seats is c.requires.node c.place.ensures.is c.in-Up.is in
+    let work = logs.work me n c.place.result k k seats seats is c.requires.node c.place.ensures.is up in
+    let same = done.ensures.hit hit in
+    let name : k.node ≡ c.args.n = ap (λ i. record { 0 = i }) work.number in
+    let whole = store_again me n c.place.result k d seats done.new.pool done.new.owners is c.requires.node c.place.ensures.is up same.2 same.3 same.1 in
+    let holds : holder (owner_of me.shared.owners c.args.x.0) ≡ Some n = ap holder ((work.owned c.args.x).1 hit) ∙ ap (λ (i : NodeId). Some i.0) name in
+    subst₂ (λ v w. Endures v (g.D.Disk.state w).block (one (Take c.args.x.0 n) m)) (sym whole) (sym same.4) (was.0, endures_again me (g.D.Disk.state c.args.disk.now).block was.0 m c.args.x.0 n c.requires.page holds was.1)
+endures_of g c false fresh told m unlost was =
+    let me = c.args.store.now in
+    let s = me.shape in
+    let n = c.args.n.0 in
+    let is = c.requires.ready.is in
+    let k = c.in-Up.cache in
+    let d = c.fetch-done.new.self in
+    let done = c.fetch-done in
+    let seats = c.in-Up._seats in
+    let up = logs.up_at me n c.place.result c.index-store-place.result k seats is c.requires.node c.place.ensures.is c.in-Up.is in
+    let a = (g.D.Disk.state c.args.disk.now).block in
+    let b = (g.D.Disk.state done.new.disk).block in
+    let p = was.0 in
+    let written = room_written me c.args.n c.args.x c.args.e k seats a p m was.1 is c.requires.node up c.requires.page c.requires.open fresh (entry_of g c) d b (done.ensures.outcomes told) (done.ensures.foreign told) (c.requires.quiet told) done.ensures.same c.in-Ok.ensures.rises (c.in-Ok.ensures.stable fresh) (c.in-Ok.ensures.holds told fresh) in (
+      p,
+      subst (λ i. EnduresAs (record { shape = s; shared = record { pool = done.new.pool; owners = done.new.owners; locks = me.shared.locks; reopening = me.shared.reopening }; nodes = slice_set me.nodes i (Up d seats) }) b p (one (Take c.args.x.0 n) m)) (sym c.place.ensures.is)
+          (endures_arrived me c.args.n c.args.x c.args.e k seats a p m was.1 is c.requires.node up c.requires.page c.requires.open fresh (entry_of g c) d done.new.pool done.new.owners b unlost written
+          (calls.logs_paged me n c.place.result k d seats is c.requires.node c.place.ensures.is up a b _ (done.ensures.foreign told) (c.requires.quiet told)) (frames_of g c false fresh) (λ i. g.met.D.Disk.lawful c.args.disk.now i told) done.ensures.node done.ensures.same
+          (c.in-Ok.ensures.arrived fresh) (c.in-Ok.ensures.found told fresh) (c.in-Ok.ensures.image told fresh) (λ xs on. c.in-Ok.ensures.log told xs on) (c.in-Ok.ensures.owners fresh)),
+    )
+
+pub returns-in-Ok-clause-led : goal.returns-in-Ok-clause-led
+returns-in-Ok-clause-led g c = λ told m unlost was.
+    endures_of g c (is_cached c.args.x c.in-Up.cache) refl told m unlost was
+
+-- the page wasn't cached
+fresh_of : (g : given.Over) (c : goal.After-give_up g) → (b : Bool) → is_cached c.args.x c.in-Up.cache ≡ b → is_cached c.args.x c.in-Up.cache ≡ false
+fresh_of g c true hit = absurd (never c.fetch-done.result c.in-Err.fault (c.fetch-done.ensures.hit hit).0 c.in-Err.is)
+fresh_of g c false new = new
+
+-- the frames of the other nodes are as they were
+frames_err : (g : given.Over) (c : goal.After-give_up g) → KeepsFramesBut c.args.n.0 c.args.store.now.nodes c.args.store.now.shared.pool c.fetch-done.new.pool
+frames_err g c =
+    let me = c.args.store.now in
+    let s = me.shape in
+    let n = c.args.n.0 in
+    let is = c.requires.ready.is in
+    let k = c.in-Up.cache in
+    let seats = c.in-Up._seats in
+    let done = c.fetch-done in
+    let up = logs.up_at me n c.place.result c.index-store-place.result k seats is c.requires.node c.place.ensures.is c.in-Up.is in
+    λ m other far. frames_broken s c.args.x c.args.e k done.new.self me.shared.pool done.new.pool (pages_of (node_at me.nodes m)) (subst (λ ps. AreApart ps (pages_of (node_at me.nodes m))) (ap pages_of up) (is.shared.apart n m c.requires.node other (λ e. far (sym e)))) (out_at s me.shared.pool me.shared.owners m (node_at me.nodes m) (is.is m other)) me.shared.owners done.new.owners c.in-Err.ensures.broken
+
+-- and the page is the node's
+holds_err : (g : given.Over) (c : goal.After-give_up g) → (y : ℕ) → holder (owner_of c.fetch-done.new.owners y) ≡ put c.args.x.0 (Some c.args.n.0) (λ j. holder (owner_of c.args.store.now.shared.owners j)) y
+holds_err g c =
+    let me = c.args.store.now in
+    let n = c.args.n.0 in
+    let is = c.requires.ready.is in
+    let k = c.in-Up.cache in
+    let seats = c.in-Up._seats in
+    let done = c.fetch-done in
+    let d = done.new.self in
+    let up = logs.up_at me n c.place.result c.index-store-place.result k seats is c.requires.node c.place.ensures.is c.in-Up.is in
+    let work = logs.work me n c.place.result k k seats seats is c.requires.node c.place.ensures.is up in
+    let name : k.node ≡ c.args.n = ap (λ i. record { 0 = i }) work.number in
+    let own : holder (Parked d.node) ≡ Some n = ap (λ (i : NodeId). Some i.0) (done.ensures.node ∙ name) in
+    elim c.in-Err.ensures.broken [
+      | inl none ↦ holder_missed me c.args.n c.args.x done.new.owners (Parked d.node) is c.requires.page own none.parks
+      | inr left ↦ holder_fetched me c.args.n c.args.x k seats done.new.owners (Parked d.node) is c.requires.node up c.requires.page own left.parks
+    ]
+
+pub returns-clause-led : goal.returns-clause-led
+returns-clause-led g c = λ live told m unlost was.
+    let me = c.args.store.now in
+    let s = me.shape in
+    let n = c.args.n.0 in
+    let is = c.requires.ready.is in
+    let k = c.in-Up.cache in
+    let d = c.fetch-done.new.self in
+    let done = c.fetch-done in
+    let seats = c.in-Up._seats in
+    let f = c.in-Err.fault in
+    let up = logs.up_at me n c.place.result c.index-store-place.result k seats is c.requires.node c.place.ensures.is c.in-Up.is in
+    let a = (g.D.Disk.state c.args.disk.now).block in
+    let b = (g.D.Disk.state done.new.disk).block in
+    let p = was.0 in
+    let fresh = fresh_of g c (is_cached c.args.x k) refl in
+    let entry = subst (λ o. OnUp o (λ d those. IsEntryOf s me.shared.pool d c.args.x c.args.e)) up c.requires.entry in
+    let goes : says_stop (reply_to (first_page s) f) ≡ false = subst (λ r. says_stop r ≡ false) c.give_up.ensures.says live in
+    let stays = λ (P : Type 0) (so : StaysLive {T = Unit {0}} (Err f) P). where_live (first_page s) f P goes (stays_unless f P P so (λ x. x)) in
+    let left = where_live (first_page s) f _ goes c.give_up.ensures.kept in
+    let missed = where_live (first_page s) f _ goes c.in-Err.ensures.missed in
+    let written = room_written me c.args.n c.args.x c.args.e k seats a p m was.1 is c.requires.node up c.requires.page c.requires.open fresh entry d b (done.ensures.outcomes told) (done.ensures.foreign told) (c.requires.quiet told) done.ensures.same
+    (stays _ c.in-Err.ensures.rises) (stays _ c.in-Err.ensures.stable fresh) (stays _ (c.in-Err.ensures.holds told) fresh) in
+    let now = endures_missed me c.args.n c.args.x c.args.e k seats a p m was.1 is c.requires.node up c.requires.page c.requires.open fresh entry d done.new.pool done.new.owners b unlost written
+    (calls.logs_paged me n c.place.result k d seats is c.requires.node c.place.ensures.is up a b _ (done.ensures.foreign told) (c.requires.quiet told)) (frames_err g c) done.ensures.node done.ensures.same missed (λ xs on. stays _ (c.in-Err.ensures.log told xs on)) in
+    subst₂ (λ v w. Endures v (g.D.Disk.state w).block (one (Take c.args.x.0 n) m)) (sym left.0) (sym left.1)
+    (p, subst (λ i. EnduresAs (record { shape = s; shared = record { pool = done.new.pool; owners = done.new.owners; locks = me.shared.locks; reopening = me.shared.reopening }; nodes = slice_set me.nodes i (Up d seats) }) b p (one (Take c.args.x.0 n) m)) (sym c.place.ensures.is) now)
+
+pub returns-clause-halts : goal.returns-clause-halts
+returns-clause-halts g c = λ told m unlost was.
+    let me = c.args.store.now in
+    let s = me.shape in
+    let n = c.args.n.0 in
+    let is = c.requires.ready.is in
+    let k = c.in-Up.cache in
+    let d = c.fetch-done.new.self in
+    let done = c.fetch-done in
+    let seats = c.in-Up._seats in
+    let f = c.in-Err.fault in
+    let new = c.give_up.new.self in
+    let up = logs.up_at me n c.place.result c.index-store-place.result k seats is c.requires.node c.place.ensures.is c.in-Up.is in
+    let work = logs.work me n c.place.result k k seats seats is c.requires.node c.place.ensures.is up in
+    let a = (g.D.Disk.state c.args.disk.now).block in
+    let b = (g.D.Disk.state done.new.disk).block in
+    let b2 = (g.D.Disk.state c.give_up.new.disk).block in
+    let p = was.0 in
+    let fresh = fresh_of g c (is_cached c.args.x k) refl in
+    let entry = subst (λ o. OnUp o (λ d those. IsEntryOf s me.shared.pool d c.args.x c.args.e)) up c.requires.entry in
+    let after = c.give_up.ensures.works.ready.is in
+    let single : (y : PageNo) → y.0 < page_count s → (b2 (page_place s y)).writer ≡ None = λ y inside. subst (λ z. (b2 (page_place z y)).writer ≡ None) c.give_up.ensures.works.shape (page_still new.shape new.nodes b2 y after.shared.shape (up_most new.shape new.shared.pool new.shared.owners new.nodes after) (c.give_up.ensures.quiet told)) in
+    let recs = (log_shown me n c.place.result k seats is c.requires.node c.place.ensures.is up a p m was.1).on in
+    subst (λ why. LedOnStop n why (Take c.args.x.0 n ∷ []) m (Endures new b2)) (sym c.give_up.ensures.says)
+    (led_on_stop n (first_page s) f (Take c.args.x.0 n ∷ []) m (Endures new b2) (page_stop s c.args.x n f (subst (λ j. IsPageFault s c.args.x j f) work.number c.in-Err.ensures.fault)) (λ stop.
+    let halts : MayHalt n (record { shape = s; shared = record { pool = done.new.pool; owners = done.new.owners; locks = me.shared.locks; reopening = me.shared.reopening }; nodes = slice_set me.nodes c.place.result (Up d seats) }) b2 (one (Take c.args.x.0 n) m) = (
+      p,
+      subst (λ i. MayHaltAs n (record { shape = s; shared = record { pool = done.new.pool; owners = done.new.owners; locks = me.shared.locks; reopening = me.shared.reopening }; nodes = slice_set me.nodes i (Up d seats) }) b2 p (one (Take c.args.x.0 n) m)) (sym c.place.ensures.is)
+          (fetch_halts me c.args.n c.args.x c.args.e k d seats a b2 p m was.1 is c.requires.node up c.requires.page c.requires.open fresh entry done.new.pool done.new.owners unlost b (done.ensures.outcomes told) (done.ensures.foreign told) (c.requires.quiet told)
+          (c.give_up.ensures.outcomes told) (c.give_up.ensures.foreign told) (λ j. g.met.D.Disk.lawful c.give_up.new.disk j told) single (of_stop n f _ stop c.in-Err.ensures.still told) (of_stop n f _ stop (c.in-Err.ensures.cut told _ recs)) (done.ensures.ahead told _ recs) (frames_err g c) (holds_err g c)),
+    ) in
+    broke_here n (Take c.args.x.0 n ∷ []) 1 m (Endures new b2) (no_unlock (Take c.args.x.0 n ∷ []) refl) (of_stop n f _ stop c.give_up.ensures.led told (one (Take c.args.x.0 n) m) halts)))
