@@ -1,5 +1,7 @@
 -- A node starts in a store that endures: what it leaves, done or stopped.
-use Rattle.std.specs.Prelude.{◌≡◌, ◌≢◌, ◌*◌, ◌+◌, ◌<◌, ◌≤◌, [], ℕ, true, false, All, IfSome, List, None, Some, length, replicate, take, refl}
+use Rattle.std.specs.Prelude.{◌≡◌, ◌≢◌, ◌*◌, ◌+◌, ◌<◌, ◌≤◌, ◌||◌, ◌∷◌, [], ℕ, Bool, true, false, All, IfSome, List, Option, None, Some, length, replicate, take, refl}
+use Rattle.std.specs.FinMap as finite
+use Rattle.std.specs.List.{list_any, range_with_len}
 use Rattle.std.proofs.Common.{arith, ap, inl, inr, subst, sym, ◌∙◌, take_all}
 use Rattle.std.proofs.lemmas.Bool.{cases_eq}
 use Rattle.std.proofs.lemmas.List.Elements.{All-replicate}
@@ -7,13 +9,17 @@ use Rattle.sd_base.specs.Disk.{BlockState}
 use Rattle.sd_base.specs.Calls.{KeepsForeign, Narrows}
 use Rattle.sd_base.specs.Outcomes.{among}
 use Rattle.sd_base.specs.Shape.{page_count}
+use Rattle.sd_base.specs.declared.names.Key.{Key}
 use Rattle.sd_base.specs.declared.names.PageNo.{PageNo}
+use Rattle.sd_base.specs.declared.names.TxnId.{TxnId}
 use Rattle.sd_base.specs.declared.shape.Shape.{Shape}
 use Rattle.private_log.specs.Content.{HasNoFuture, LogContent, region_of}
 use Rattle.private_log.specs.Log.{IsLogOn, region}
 use Rattle.private_log.specs.Reading.{contents}
 use Rattle.private_log.specs.Spread.{IsStill}
+use Rattle.record_locks.specs.declared.mode.Mode.{Mode}
 use Rattle.record_locks.specs.Held.{mode_of}
+use Rattle.record_locks.specs.Order.{lock, lock_cmp}
 use Rattle.node_cache.specs.Cache.{CacheState}
 use Rattle.txn_core.specs.Seats.{SeatsState}
 use Rattle.recovery_theory.specs.History.{History}
@@ -21,7 +27,7 @@ use Rattle.recovery_theory.specs.Rules.{last_record_of}
 use Rattle.recovery_theory.specs.Steps.{stopped}
 use Rattle.recovery_theory.proofs.Cuts.{set_at-same}
 use Rattle.record_machine.specs.Cuts.{Survives, SurvivesAs}
-use Rattle.record_machine.specs.Machine.{Machine}
+use Rattle.record_machine.specs.Machine.{Machine, awaits_recovery, is_begin_in}
 use Rattle.record_machine.specs.Machine as machine
 use Rattle.record_machine.specs.Meaning.{Plain}
 use Rattle.record_machine.specs.Parts.{Start, one}
@@ -51,7 +57,20 @@ idle_left me n a b d idle quiet read left k = left k (λ mine. unwritten (ap (λ
     first : b k ≡ a k
     first = read k unwritten
 
-module _ (me : Store) (n : ℕ) (is : IsStore me) (place : IsPlace n) (known : n ≤ me.shape.nodes) (idle : node_at me.nodes n ≡ Idle) (b b' : ℕ → BlockState) (same : (k : ℕ) → b' k ≡ b k) (p : Plain) (m : Machine) (e : EnduresAs me b p m) (whole : me.shared.reopening ≡ false) where
+-- what one of some numbers passes, it passes a test that passes all that pass the first
+any_still : (f g : ℕ → Bool) (ks : List ℕ) → ((k : ℕ) → f k ≡ true → g k ≡ true) → list_any f ks ≡ true → list_any g ks ≡ true
+any_still f g [] more was = was
+any_still f g (k ∷ ks) more was = by (f k) refl (any_still f g ks more) was
+  where
+    or_true : (t : Bool) → (t || true) ≡ true
+    or_true true = refl
+    or_true false = refl
+
+    by : (t : Bool) → f k ≡ t → (list_any f ks ≡ true → list_any g ks ≡ true) → (t || list_any f ks) ≡ true → (g k || list_any g ks) ≡ true
+    by true here later all = ap (λ t. t || list_any g ks) (more k here)
+    by false none later rest = ap (λ t. g k || t) (later rest) ∙ or_true (g k)
+
+module _ (me : Store) (n : ℕ) (is : IsStore me) (place : IsPlace n) (known : n ≤ me.shape.nodes) (idle : node_at me.nodes n ≡ Idle) (b b' : ℕ → BlockState) (same : (k : ℕ) → b' k ≡ b k) (p : Plain) (m : Machine) (e : EnduresAs me b p m) where
   abbrev h : History
   h = e.history
 
@@ -69,21 +88,39 @@ module _ (me : Store) (n : ℕ) (is : IsStore me) (place : IsPlace n) (known : n
   survived : Survives e.dirty h p (one (Start n) m1)
   survived = started_survives e.dirty h p m1 n e.survives.survives mine.0 place.0 (subst (λ (s : Shape). n ≤ s.nodes) (sym e.nodes.shape) known)
 
+  -- it had no lock, nor did it wait for recovery
+  unlocked : (key : Key) (t : TxnId) → t.node.0 ≡ n → (o : Option Mode) → mode_of e.held key t ≡ o → o ≡ None
+  unlocked key t here None has = refl
+  unlocked key t here (Some how) has = absurd (e.survives.survives.stops.owners key t how has (ap m.mode here ∙ mine.0))
+
+  waits : (k : ℕ) → awaits_recovery (m.mode k) ≡ true → awaits_recovery ((one (Start n) m).mode k) ≡ true
+  waits k was = elim (cases_eq k n) [
+    | inl here ↦ (let never : true ≡ false = sym was ∙ ap (λ j. awaits_recovery (m.mode j)) here ∙ ap awaits_recovery mine.0 in absurd cc)
+    | inr far ↦ ap awaits_recovery (put_other n machine.Up m.mode k far) ∙ was
+  ]
+
   survives_started : SurvivesAs e.held e.dirty h p (one (Start n) m)
   survives_started = record {
     survives = survived;
     own = e.survives.own;
     lost = e.survives.lost;
-    awaits = λ lost. (let never : true ≡ false = sym lost ∙ e.reopening ∙ whole in absurd cc);
-    quiet = λ lost. (let never : true ≡ false = sym lost ∙ e.reopening ∙ whole in absurd cc);
+    awaits = λ lost. any_still (λ k. awaits_recovery (m.mode k)) (λ k. awaits_recovery ((one (Start n) m).mode k)) (range_with_len 1 m.shape.nodes) waits (e.survives.awaits lost);
+    quiet = λ lost t live. elim (cases_eq t.node.0 n) [
+      | inl here ↦ (ap (λ k. list_any (is_begin_in t.seat) (m.pending k)) here ∙ ap (list_any (is_begin_in t.seat)) mine.1.none, λ key. unlocked key t here (mode_of e.held key t) refl)
+      | inr far ↦ e.survives.quiet lost t (sym (put_other n machine.Up m.mode t.node.0 far) ∙ live)
+    ];
   }
 
   -- no transaction of the node had a lock
   lockers_started : AreBusy (one (Start n) m)
   lockers_started key t how has live = elim (cases_eq t.node.0 n) [
-    | inl here ↦ absurd (e.survives.survives.stops.owners key t how (subst (λ l. mode_of l key t ≡ Some how) (sym (e.survives.own (e.reopening ∙ whole))) has) (ap m.mode here ∙ mine.0))
+    | inl here ↦ absurd (none here m.reopening refl)
     | inr far ↦ e.lockers key t how has (sym (put_other n machine.Up m.mode t.node.0 far) ∙ live)
   ]
+    where
+      none : t.node.0 ≡ n → (lost : Bool) → m.reopening ≡ lost → ⊥
+      none here true lost = let never : None ≡ Some how = sym (finite.get-empty lock_cmp (lock key t)) ∙ subst (λ l. mode_of l key t ≡ Some how) (e.survives.lost lost) has in absurd cc
+      none here false whole = e.survives.survives.stops.owners key t how (subst (λ l. mode_of l key t ≡ Some how) (sym (e.survives.own whole)) has) (ap m.mode here ∙ mine.0)
 
   -- ---- the blocks
 

@@ -107,7 +107,7 @@ impl Store {
         ensures halts { IfErr result (λ why. says_stop why ≡ true → Halts n self.old self.new (D.state disk.new) (V.state vault.new)) }
         ensures kept { IfErr result (λ why. says_stop why ≡ false → self.new ≡ self.old) }
         ensures shows { OnOk result (IsTrue D.told → (m : Machine) → IsShown self.old (D.state disk.old).block m → IsShown self.new (D.state disk.new).block (one (Start n.0) m)) }
-        ensures led { IsTrue D.told → (m : Machine) → m.reopening ≡ false → Endures self.old (D.state disk.old).block m → Led n.0 result (Start n.0 ∷ []) m (Endures self.new (D.state disk.new).block) }
+        ensures led { IsTrue D.told → (m : Machine) → Endures self.old (D.state disk.old).block m → Led n.0 result (Start n.0 ∷ []) m (Endures self.new (D.state disk.new).block) }
         ensures stopped { IfErr result (λ why. IsTrue D.told → (m : Machine) → IsShown self.old (D.state disk.old).block m → says_stop why ≡ true) }
     {
         disk.start(n);

@@ -69,6 +69,6 @@ pub returns-clause-shows : goal.returns-clause-shows
 returns-clause-shows g c = on_done c.write_back.result c.write_back.ensures.shows (λ shows told m shown. shows told _ (c.in_ok-force.ensures.shows told m shown))
 
 pub returns-clause-led : goal.returns-clause-led
-returns-clause-led g c = λ told m unlost was.
+returns-clause-led g c = λ told m was.
     led_behind c.args.n.0 (Sure c.args.n.0) [] m (Endures c.write_back.new.store (g.D.Disk.state c.write_back.new.disk).block) refl c.write_back.result
-    (c.write_back.ensures.led told (one (Sure c.args.n.0) m) unlost (c.in_ok-force.ensures.led told m unlost was))
+    (c.write_back.ensures.led told (one (Sure c.args.n.0) m) (c.in_ok-force.ensures.led told m was))

@@ -205,7 +205,7 @@ returns-in-Ok-clause-shows g c = λ told m shown.
     )
 
 pub returns-in-Ok-clause-led : goal.returns-in-Ok-clause-led
-returns-in-Ok-clause-led g c = λ told m open_still was.
+returns-in-Ok-clause-led g c = λ told m was.
     let me = c.args.store.now in
     let n = c.args.n.0 in
     let i = c.place.result in
@@ -220,7 +220,7 @@ returns-in-Ok-clause-led g c = λ told m open_still was.
     (forced_endures me n i k d seats is c.requires.node c.place.ensures.is up a b m was (c.force-done.ensures.outcomes told) (c.force-done.ensures.foreign told) (c.requires.quiet told) c.force-done.ensures.pages c.force-done.ensures.same c.in-Ok.ensures.stable (c.in-Ok.ensures.log told))
 
 pub returns-clause-led : goal.returns-clause-led
-returns-clause-led g c = λ told m open_still was.
+returns-clause-led g c = λ told m was.
     let me = c.args.store.now in
     let n = c.args.n.0 in
     let i = c.place.result in

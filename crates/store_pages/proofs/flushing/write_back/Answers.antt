@@ -259,7 +259,7 @@ returns-in-Ok-clause-shows g c = λ told m shown.
     )
 
 pub returns-in-Ok-clause-led : goal.returns-in-Ok-clause-led
-returns-in-Ok-clause-led g c = λ told m unlost was.
+returns-in-Ok-clause-led g c = λ told m was.
     let me = c.args.store.now in
     let n = c.args.n.0 in
     let i = c.place.result in
@@ -279,7 +279,7 @@ returns-in-Ok-clause-led g c = λ told m unlost was.
     )
 
 pub returns-clause-led : goal.returns-clause-led
-returns-clause-led g c = λ told m unlost was.
+returns-clause-led g c = λ told m was.
     let me = c.args.store.now in
     let s = me.shape in
     let n = c.args.n.0 in

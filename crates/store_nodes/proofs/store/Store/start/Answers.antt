@@ -85,7 +85,7 @@ returns-in-Ok-clause-shows g c = λ told m shown_by.
     )
 
 pub returns-in-Ok-clause-led : goal.returns-in-Ok-clause-led
-returns-in-Ok-clause-led g c = λ told m open_still was.
+returns-in-Ok-clause-led g c = λ told m was.
     let p = was.0 in
     let me = c.args.self.now in
     let s = me.shape in
@@ -106,11 +106,11 @@ returns-in-Ok-clause-led g c = λ told m open_still was.
     let stable = subst (λ l. l.stable ≡ l.tail) (sym log_is) c.in-Ok.ensures.stable in (
       p,
       moved me c.bring_up.new.self n cache seats c.bring_up.ensures.shape c.bring_up.ensures.shared c.bring_up.ensures.nodes (λ t h os. EnduresAs (record { shape = t; shared = h; nodes = os }) d p (one (Start n) m))
-          (started_endures me n c.requires.ready.is c.requires.node c.requires.known c.requires.idle d d (λ k. refl) p m before (sym before.reopening ∙ open_still) cache seats (ap (λ (k : NodeId). k.0) c.new-cache.ensures.node) c.new-cache.ensures.pages c.new.ensures.seats region_is read.records content on stable),
+          (started_endures me n c.requires.ready.is c.requires.node c.requires.known c.requires.idle d d (λ k. refl) p m before cache seats (ap (λ (k : NodeId). k.0) c.new-cache.ensures.node) c.new-cache.ensures.pages c.new.ensures.seats region_is read.records content on stable),
     )
 
 pub returns-in-Err-clause-led : goal.returns-in-Err-clause-led
-returns-in-Err-clause-led g c = λ told m open_still was.
+returns-in-Err-clause-led g c = λ told m was.
     let p = was.0 in
     let e = was.1 in
     let me = c.args.self.now in
@@ -127,4 +127,4 @@ returns-in-Err-clause-led g c = λ told m open_still was.
     subst (λ why. LedErr n why (Start n ∷ []) m S) (sym c.leave_out.ensures.says)
     (led_read n c.in-Err.fault (Start n ∷ []) m S stop
     (broke_here n (Start n ∷ []) 1 m S (no_unlock (Start n ∷ []) refl) (of_stop n c.in-Err.fault _ stop c.leave_out.ensures.led told (one (Start n) m)
-    (p, started_halts me n c.requires.ready.is c.requires.node c.requires.known c.requires.idle a b2 left p m e (sym e.reopening ∙ open_still)))))
+    (p, started_halts me n c.requires.ready.is c.requires.node c.requires.known c.requires.idle a b2 left p m e))))
