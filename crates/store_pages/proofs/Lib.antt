@@ -22,3 +22,5 @@ pub mod ShownTaken
 pub mod WorksWith
 pub mod Passes
 pub mod TakenPages
+pub mod Holders
+pub mod ShownHolders
