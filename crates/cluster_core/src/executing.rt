@@ -15,6 +15,7 @@ ghost use Rattle.store_nodes.specs.Nodes.{OnUp, node_at};
 ghost use Rattle.store_nodes.specs.Pages.{KeepsWork, WritesBack};
 ghost use Rattle.store_nodes.specs.Ports.{HasCause, IsQuiet, IsReady, IsStopReply, WorksWith, WritesWith, says_stop};
 ghost use Rattle.store_nodes.specs.Shows.{IsShown};
+ghost use Rattle.store_commands.specs.Aborts.{RefusesHeld};
 ghost use Rattle.store_commands.specs.AtHand.{HasBoth, IsAtHand, IsAtHandToDelete, MakesRoomWith};
 ghost use Rattle.cluster_core.specs.Answers.{IsAnswer, IsToldIn, LeavesOpen};
 ghost use Rattle.cluster_core.specs.Records.{is_refusal, key_of, page_then, says_done};
@@ -58,6 +59,7 @@ fn execute<D: Arm, V: Arm>(
     ensures room { IsTrue D.told → says_done result ≡ true → (key : Key) → key_of command.now ≡ Some key → MakesRoomWith (record { 0 = worker command.now }) key store.old store.new (D.state disk.old).block (D.state disk.new).block }
     ensures flushed { (n : NodeId) → command.now ≡ Command.Flush n → known store.old command.now ≡ None → says_stop result ≡ false → (count : ℕ) × (result ≡ says.Flushed count) × OnUp (node_at store.old.nodes n.0) (λ c old. OnUp (node_at store.new.nodes n.0) (λ d new. WritesBack c d count)) }
     ensures stat { (n : NodeId) → command.now ≡ Command.Stat n → (store.new ≡ store.old) × (disk.new ≡ disk.old) × (vault.new ≡ vault.old) }
+    ensures held { IsTrue D.told → known store.old command.now ≡ None → (t : TxnId) → command.now ≡ Command.Abort t → RefusesHeld store.old store.new (D.state disk.old).block (D.state disk.new).block t result }
     ensures step { IsTrue D.told → says_stop result ≡ false → (m : Machine) → IsShown store.old (D.state disk.old).block m → StepOrStop m command.now result (IsShown store.new (D.state disk.new).block) }
 {
     if let Err(why) = store.check(command) {
@@ -112,6 +114,7 @@ impl Cluster {
         ensures room { IsTrue D.told → says_done result ≡ true → (key : Key) → key_of command.now ≡ Some key → MakesRoomWith (record { 0 = worker command.now }) key self.old self.new (D.state disk.old).block (D.state disk.new).block }
         ensures flushed { (n : NodeId) → command.now ≡ Command.Flush n → known self.old command.now ≡ None → says_stop result ≡ false → (count : ℕ) × (result ≡ says.Flushed count) × OnUp (node_at self.old.nodes n.0) (λ c old. OnUp (node_at self.new.nodes n.0) (λ d new. WritesBack c d count)) }
         ensures stat { (n : NodeId) → command.now ≡ Command.Stat n → (self.new ≡ self.old) × (disk.new ≡ disk.old) × (vault.new ≡ vault.old) }
+        ensures held { IsTrue D.told → known self.old command.now ≡ None → (t : TxnId) → command.now ≡ Command.Abort t → RefusesHeld self.old self.new (D.state disk.old).block (D.state disk.new).block t result }
         ensures step { IsTrue D.told → says_stop result ≡ false → (m : Machine) → IsShown self.old (D.state disk.old).block m → StepOrStop m command.now result (IsShown self.new (D.state disk.new).block) }
     {
         execute(&mut self.store, disk, vault, command)

@@ -50,15 +50,22 @@ refused_for m (asks.Flush n) = first_of (no_node m n ∷ not_up m n ∷ [])
 refused_for m (asks.Stat n) = no_node m n
 refused_for m (asks.Dump n) = first_of (no_node m n ∷ not_up m n ∷ any_lock m ∷ reopening m ∷ [])
 
--- when a refusal is met: before the command takes a page, as it takes its pages, or once it has taken them all
+-- when a refusal is met: before the command reads or takes anything, once it has read in its node's log which pages it
+-- takes, as it takes its pages, or once it has taken them all
 pub data Met : Type 0 where
   Before : Met
+  Ahead : Met
   Taking : Met
   Behind : Met
 
-abbrev pub met : Reply → Met
-met (says.Held x h) = Taking
-met why = if needs_pages why then Behind else Before
+-- a page that a node has which is down: an abort tests all its pages before it takes the first one
+abbrev pub met_held : Command → Met
+met_held (asks.Abort t) = Ahead
+met_held c = Taking
+
+abbrev pub met : Command → Reply → Met
+met c (says.Held x h) = met_held c
+met c why = if needs_pages why then Behind else Before
 
 -- ---- what is done
 
@@ -90,12 +97,14 @@ pub record HasTaken (m : Machine) (c : Command) (S : Machine → Type 0) : Type 
   pub after : S (dos (take count (takes m c)) m)
 
 -- A command that is refused for what is in its pages, for the value or for the room of the log has taken all of its pages. One of
--- whose pages is held by a node that is down may have taken some. One that is refused for anything else has taken none.
+-- whose pages is held by a node that is down may have taken some, unless it is an abort. That one, and one that is refused for
+-- anything else, has taken none.
 abbrev pub StaysAs : Machine → Command → Reply → (Machine → Type 0) → Type 0
-StaysAs m c why S = by (met why)
+StaysAs m c why S = by (met c why)
   where
     by : Met → Type 0
     by Before = S m
+    by Ahead = S m
     by Taking = HasTaken m c S
     by Behind = S (dos (takes m c) m)
 
@@ -119,18 +128,20 @@ up_to_held m [] = []
 up_to_held m (Take x n ∷ ps) = if is_some (held_page m x) then [] else Take x n ∷ up_to_held m ps
 up_to_held m (part ∷ ps) = part ∷ up_to_held m ps
 
--- A node has stopped in a command. Where its pages tell that it is refused, it stopped as it took them.
+-- A node has stopped in a command. Where its pages tell that it is refused, it stopped as it took them. Where it is refused
+-- before it takes one, its node stopped as it read its log.
 abbrev pub StopsIn : Machine → Command → ℕ → (Machine → Type 0) → Type 0
 StopsIn m c h S = by (refused_for m c)
   where
     refused : Met → Type 0
     refused Before = ⊥
+    refused Ahead = Broke (worker c) h [] m S
     refused Taking = Broke (worker c) h (up_to_held m (takes m c)) m S
     refused Behind = Broke (worker c) h (takes m c) m S
 
     by : Option Reply → Type 0
     by None = Broke (worker c) h (parts_of m c) m S
-    by (Some why) = refused (met why)
+    by (Some why) = refused (met c why)
 
 -- a page of it is lost
 abbrev pub LosesIn : Machine → Command → ℕ → (Machine → Type 0) → Type 0
@@ -138,12 +149,13 @@ LosesIn m c x S = by (refused_for m c)
   where
     refused : Met → Type 0
     refused Before = ⊥
+    refused Ahead = ⊥
     refused Taking = HasLost m c x S
     refused Behind = HasLost m c x S
 
     by : Option Reply → Type 0
     by None = HasLost m c x S
-    by (Some why) = refused (met why)
+    by (Some why) = refused (met c why)
 
 -- From m the machine may answer a command so, and go on to a state of S.
 abbrev pub StepOrStop : Machine → Command → Reply → (Machine → Type 0) → Type 0

@@ -1,5 +1,5 @@
 -- A step of the machine: with more that holds of the states after it, and the state that it ends in.
-use Rattle.std.proofs.Common.{◌≡◌, ℕ, List, Option, Some, None, take, refl}
+use Rattle.std.proofs.Common.{◌≡◌, [], ℕ, List, Option, Some, None, take, refl}
 use Rattle.sd_base.specs.declared.device.NodeId.{NodeId}
 use Rattle.script_text.specs.declared.command.Command.{Command}
 use Rattle.script_text.specs.declared.command.Command.TheVariants as asks
@@ -9,7 +9,7 @@ use Rattle.record_machine.specs.Commands.{takes}
 use Rattle.record_machine.specs.Led.{Broke}
 use Rattle.record_machine.specs.Machine.{Machine}
 use Rattle.record_machine.specs.Parts.{Part, dos}
-use Rattle.record_machine.specs.Steps.{Before, Behind, DumpEnds, DumpOrStop, HasLost, HasTaken, LosesIn, Met, StaysAs, StepOrStop, StopsIn, StopsTaking, TakesPages, all_rows, failed, held_by, lost, met, parts_of, refused_for, stopped, take_all, Taking, up_to_held, worker}
+use Rattle.record_machine.specs.Steps.{Ahead, Before, Behind, DumpEnds, DumpOrStop, HasLost, HasTaken, LosesIn, Met, StaysAs, StepOrStop, StopsIn, StopsTaking, TakesPages, all_rows, failed, held_by, lost, met, parts_of, refused_for, stopped, take_all, Taking, up_to_held, worker}
 use Rattle.record_machine.specs.Stops.{stop}
 
 -- ---- more that holds of the states after it
@@ -25,36 +25,39 @@ module _ (S T : Machine → Type 0) (f : (k : Machine) → S k → T k) where
   HasLost-map m c x l = record { count = l.count; free = l.free; last = l.last; gone = l.gone; after = f (dos (take l.count (takes m c)) m) l.after }
 
   StaysAs-map : (m : Machine) (c : Command) (why : Reply) → StaysAs m c why S → StaysAs m c why T
-  StaysAs-map m c why stays = by (met why) refl
+  StaysAs-map m c why stays = by (met c why) refl
     where
-      by : (o : Met) → met why ≡ o → StaysAs m c why T
+      by : (o : Met) → met c why ≡ o → StaysAs m c why T
       by Before is = let now = rw is at stays in rw is (f m now)
+      by Ahead is = let now = rw is at stays in rw is (f m now)
       by Taking is = let now = rw is at stays in rw is (HasTaken-map m c now)
       by Behind is = let now = rw is at stays in rw is (f (dos (takes m c) m) now)
 
   StopsIn-map : (m : Machine) (c : Command) (h : ℕ) → StopsIn m c h S → StopsIn m c h T
   StopsIn-map m c h stops = by (refused_for m c) refl
     where
-      refused : (why : Reply) → refused_for m c ≡ Some why → (o : Met) → met why ≡ o → StopsIn m c h T
+      refused : (why : Reply) → refused_for m c ≡ Some why → (o : Met) → met c why ≡ o → StopsIn m c h T
       refused why is Before at = let now = rw (is, at) at stops in absurd now
+      refused why is Ahead at = let now = rw (is, at) at stops in rw (is, at) (Broke-map (worker c) h [] m now)
       refused why is Taking at = let now = rw (is, at) at stops in rw (is, at) (Broke-map (worker c) h (up_to_held m (takes m c)) m now)
       refused why is Behind at = let now = rw (is, at) at stops in rw (is, at) (Broke-map (worker c) h (takes m c) m now)
 
       by : (o : Option Reply) → refused_for m c ≡ o → StopsIn m c h T
       by None is = let now = rw is at stops in rw is (Broke-map (worker c) h (parts_of m c) m now)
-      by (Some why) is = refused why is (met why) refl
+      by (Some why) is = refused why is (met c why) refl
 
   LosesIn-map : (m : Machine) (c : Command) (x : ℕ) → LosesIn m c x S → LosesIn m c x T
   LosesIn-map m c x loses = by (refused_for m c) refl
     where
-      refused : (why : Reply) → refused_for m c ≡ Some why → (o : Met) → met why ≡ o → LosesIn m c x T
+      refused : (why : Reply) → refused_for m c ≡ Some why → (o : Met) → met c why ≡ o → LosesIn m c x T
       refused why is Before at = let now = rw (is, at) at loses in absurd now
+      refused why is Ahead at = let now = rw (is, at) at loses in absurd now
       refused why is Taking at = let now = rw (is, at) at loses in rw (is, at) (HasLost-map m c x now)
       refused why is Behind at = let now = rw (is, at) at loses in rw (is, at) (HasLost-map m c x now)
 
       by : (o : Option Reply) → refused_for m c ≡ o → LosesIn m c x T
       by None is = let now = rw is at loses in rw is (HasLost-map m c x now)
-      by (Some why) is = refused why is (met why) refl
+      by (Some why) is = refused why is (met c why) refl
 
   pub StepOrStop-map : (m : Machine) (c : Command) (r : Reply) → StepOrStop m c r S → StepOrStop m c r T
   StepOrStop-map m c (says.Stopped h) step = StopsIn-map m c h.0 step
@@ -103,36 +106,39 @@ module _ (S : Machine → Type 0) where
   HasLost-end m c x l = (_, l.after, record { count = l.count; free = l.free; last = l.last; gone = l.gone; after = refl })
 
   StaysAs-end : (m : Machine) (c : Command) (why : Reply) → StaysAs m c why S → Ends (StaysAs m c why) S
-  StaysAs-end m c why stays = by (met why) refl
+  StaysAs-end m c why stays = by (met c why) refl
     where
-      by : (o : Met) → met why ≡ o → Ends (StaysAs m c why) S
+      by : (o : Met) → met c why ≡ o → Ends (StaysAs m c why) S
       by Before is = let now = rw is at stays in (m, now, rw is refl)
+      by Ahead is = let now = rw is at stays in (m, now, rw is refl)
       by Taking is = let end = HasTaken-end m c (rw is at stays) in (end.0, end.1, rw is end.2)
       by Behind is = let now = rw is at stays in (dos (takes m c) m, now, rw is refl)
 
   StopsIn-end : (m : Machine) (c : Command) (h : ℕ) → StopsIn m c h S → Ends (StopsIn m c h) S
   StopsIn-end m c h stops = by (refused_for m c) refl
     where
-      refused : (why : Reply) → refused_for m c ≡ Some why → (o : Met) → met why ≡ o → Ends (StopsIn m c h) S
+      refused : (why : Reply) → refused_for m c ≡ Some why → (o : Met) → met c why ≡ o → Ends (StopsIn m c h) S
       refused why is Before at = let now = rw (is, at) at stops in absurd now
+      refused why is Ahead at = let now = rw (is, at) at stops in let end = Broke-end (worker c) h [] m now in (end.0, end.1, rw (is, at) end.2)
       refused why is Taking at = let now = rw (is, at) at stops in let end = Broke-end (worker c) h (up_to_held m (takes m c)) m now in (end.0, end.1, rw (is, at) end.2)
       refused why is Behind at = let now = rw (is, at) at stops in let end = Broke-end (worker c) h (takes m c) m now in (end.0, end.1, rw (is, at) end.2)
 
       by : (o : Option Reply) → refused_for m c ≡ o → Ends (StopsIn m c h) S
       by None is = let now = rw is at stops in let end = Broke-end (worker c) h (parts_of m c) m now in (end.0, end.1, rw is end.2)
-      by (Some why) is = refused why is (met why) refl
+      by (Some why) is = refused why is (met c why) refl
 
   LosesIn-end : (m : Machine) (c : Command) (x : ℕ) → LosesIn m c x S → Ends (LosesIn m c x) S
   LosesIn-end m c x loses = by (refused_for m c) refl
     where
-      refused : (why : Reply) → refused_for m c ≡ Some why → (o : Met) → met why ≡ o → Ends (LosesIn m c x) S
+      refused : (why : Reply) → refused_for m c ≡ Some why → (o : Met) → met c why ≡ o → Ends (LosesIn m c x) S
       refused why is Before at = let now = rw (is, at) at loses in absurd now
+      refused why is Ahead at = let now = rw (is, at) at loses in absurd now
       refused why is Taking at = let now = rw (is, at) at loses in let end = HasLost-end m c x now in (end.0, end.1, rw (is, at) end.2)
       refused why is Behind at = let now = rw (is, at) at loses in let end = HasLost-end m c x now in (end.0, end.1, rw (is, at) end.2)
 
       by : (o : Option Reply) → refused_for m c ≡ o → Ends (LosesIn m c x) S
       by None is = let now = rw is at loses in let end = HasLost-end m c x now in (end.0, end.1, rw is end.2)
-      by (Some why) is = refused why is (met why) refl
+      by (Some why) is = refused why is (met c why) refl
 
   pub StepOrStop-end : (m : Machine) (c : Command) (r : Reply) → StepOrStop m c r S → (k : Machine) × S k × StepOrStop m c r (λ j. j ≡ k)
   StepOrStop-end m c (says.Stopped h) step = StopsIn-end m c h.0 step

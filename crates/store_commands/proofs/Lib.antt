@@ -36,3 +36,4 @@ pub mod DumpSteps
 pub mod DumpTakes
 pub mod FoundRows
 pub mod RoomMade
+pub mod AbortAnswers

@@ -2,7 +2,6 @@
 use Rattle.std.specs.Prelude.{◌≡◌, ◌≢◌, ◌∷◌, [], ℕ, zero, suc, List, Option, Some, None, Result, Err, take, refl}
 use Rattle.std.proofs.Common.{◌∙◌}
 use Rattle.script_text.specs.declared.reply.Reply.{Reply}
-use Rattle.script_text.specs.declared.reply.Reply.TheVariants as says
 use Rattle.record_machine.specs.Machine.{Machine}
 use Rattle.record_machine.specs.Parts.{Part, Take, dos, one}
 use Rattle.record_machine.specs.Steps.{held, held_page}

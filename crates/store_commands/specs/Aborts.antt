@@ -1,5 +1,5 @@
 -- What an abort leaves, and why it isn't done, whatever its devices hold.
-use Rattle.std.specs.Prelude.{◌≡◌, ◌⊎◌, ◌<◌, ◌∷◌, [], ⊤, ℕ, Bool, true, List, Some, Result, All, reverse, IfErr, IfSome, IsTrue, OnOk}
+use Rattle.std.specs.Prelude.{◌≡◌, ◌⊎◌, ◌*◌, ◌<◌, ◌∷◌, [], ⊤, ℕ, Bool, true, List, Some, Result, All, reverse, IfErr, IfSome, IsTrue, OnOk}
 use Rattle.sd_base.specs.Calls.{Narrows}
 use Rattle.sd_base.specs.Disk.{BlockState, DiskState}
 use Rattle.sd_base.specs.Places.{map_of_data}
@@ -7,20 +7,24 @@ use Rattle.sd_base.specs.Shape.{page_count}
 use Rattle.sd_base.specs.declared.names.PageNo.{PageNo}
 use Rattle.sd_base.specs.declared.names.TxnId.{TxnId}
 use Rattle.sd_base.specs.declared.shape.Shape.{Shape}
+use Rattle.log_record.specs.declared.record.LogRecord.{LogRecord}
 use Rattle.private_log.specs.Content.{region_of}
 use Rattle.private_log.specs.Reading.{IsInRegion, contents}
 use Rattle.state_ids.specs.Blocks.{page_place}
 use Rattle.script_text.specs.declared.reply.Reply.{Reply}
 use Rattle.script_text.specs.declared.reply.Reply.TheVariants as says
+use Rattle.txn_core.specs.Seats.{OpenTxn, txn_in}
+use Rattle.txn_core.specs.Told.{AreTold, HasRecords}
 use Rattle.record_machine.specs.Machine.{Machine, writes_of}
 use Rattle.record_machine.specs.Parts.{Part, Take}
 use Rattle.store_nodes.specs.declared.node.Node.TheVariants.{Down}
 use Rattle.store_nodes.specs.declared.store.Store.{Store}
-use Rattle.store_nodes.specs.Causes.{IsToldOfPages}
+use Rattle.store_nodes.specs.Causes.{IsLogReply, IsToldOfPages}
 use Rattle.store_nodes.specs.Known.{held_in}
-use Rattle.store_nodes.specs.Nodes.{is_up, node_at}
+use Rattle.store_nodes.specs.Nodes.{OnUp, is_up, node_at}
 use Rattle.store_nodes.specs.Pages.{has_txn}
 use Rattle.store_nodes.specs.Ports.{HasCause, IsStopReply, IsWorker, SaysStopOf, UnlessStop, WorksWith, WritesWith}
+use Rattle.store_pages.specs.Holders.{held_left}
 use Rattle.store_pages.specs.Updates.{HasNoRoomFor}
 
 -- ---- why it isn't done
@@ -41,6 +45,12 @@ abbrev pub IsToldOfAbort : Store → (ℕ → BlockState) → TxnId → Reply �
 IsToldOfAbort c b t (says.LostPage x) = IsToldOfPages c.shape (contents b) (says.LostPage x)
 IsToldOfAbort c b t (says.DamagedDisk at) = IsInRegion (region_of c.shape t.node.0) at.0 ⊎ IsToldOfPages c.shape (contents b) (says.DamagedDisk at) ⊎ ((x : PageNo) × (at.0 ≡ page_place c.shape x) × HasNoRoomFor c b t x)
 IsToldOfAbort c b t reply = ⊤
+
+-- The log of the transaction's node tells its updates. Where nodes that are down have pages of them, it is answered for the
+-- first of these, and nothing has changed; or else the log isn't read to its end.
+abbrev pub RefusesHeld : Store → Store → (ℕ → BlockState) → (ℕ → BlockState) → TxnId → Reply → Type 0
+RefusesHeld old new b b' t reply = OnUp (node_at old.nodes t.node.0) (λ k seats. (recs : List LogRecord) (u : OpenTxn) → txn_in seats t.seat ≡ Some u → HasRecords k.log b recs → AreTold seats k.log.start recs
+    → IfSome (held_left old u.begin (6 * k.log.start) recs) (λ why. ((reply ≡ why) × (new ≡ old) × (b' ≡ b)) ⊎ IsLogReply t.node.0 (region_of old.shape t.node.0) reply))
 
 -- ---- what it leaves where it isn't done
 

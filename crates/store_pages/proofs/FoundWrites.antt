@@ -203,7 +203,7 @@ module _ (n : ℕ) (s : Shape) (pool : List (Option (List ℕ))) (c : CacheState
   all_both P Q ds all more = λ k d at. (all k d at, more k d at)
 
   -- each write of it is one
-  all_some : (ds : List Deed) → All (λ d. is_some d.write ≡ true) (filter (is_write_in t.seat) ds)
+  pub all_some : (ds : List Deed) → All (λ d. is_some d.write ≡ true) (filter (is_write_in t.seat) ds)
   all_some [] = λ k d at. absurd (omega (arith, at))
   all_some (d ∷ ds) = by (is_write_in t.seat d) refl (all_some ds)
     where

@@ -31,3 +31,5 @@ pub mod FetchHalts
 pub mod WorksWith
 pub mod Passes
 pub mod TakenPages
+pub mod Holders
+pub mod ShownHolders

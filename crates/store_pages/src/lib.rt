@@ -7,6 +7,7 @@
 //! exit, a node whose port stops down; above it a command is a sequence of calls of both crates.
 #![tactic(auto)]
 
+mod abort_holders;
 mod abort_updates;
 mod cached_pages;
 mod fetching;
@@ -15,6 +16,7 @@ mod rereading;
 mod surrendering;
 mod taking;
 
+pub use abort_holders::test_holders;
 pub use abort_updates::{test_room, update_after};
 pub use cached_pages::{
     data_ident, entry_at, free_place, map_ident, next_group, place_of_group, slot_of,

@@ -156,7 +156,7 @@ returns-in-Get-clause-step g c = λ told runs m shown.
     let is : IsStore c.args.store.now = c.requires.ready.is in
     let left = behind_known c.args.store.now a was.0 m is was.1 (asks.Get c.in-Get.t c.in-Get.key) (subst InRange c.in-Get.is c.requires.range) (subst (λ k. known c.args.store.now k ≡ None) c.in-Get.is (passed (known c.args.store.now c.args.command.now) (sym c.check.ensures ∙ c.in_default.is))) in
     let goes : says_stop (reply_found c.get.result) ≡ false = subst (λ k. says_stop k ≡ false) c.reply_found.ensures runs in
-    rw (c.in-Get.is, c.reply_found.ensures) (taken_step _ m (asks.Get c.in-Get.t c.in-Get.key) [] reply_found c.get.result S (λ why. refl) left (where_runs reply_found c.get.result (λ why. refl) (c.get.ensures.step told m was) goes)
+    rw (c.in-Get.is, c.reply_found.ensures) (taken_step _ m (asks.Get c.in-Get.t c.in-Get.key) [] reply_found c.get.result S (λ why. refl) refl left (where_runs reply_found c.get.result (λ why. refl) (c.get.ensures.step told m was) goes)
     (λ none done. found_step m c.in-Get.t c.in-Get.key c.get.result S none done.0 (on_done c.get.result c.get.ensures.answer (λ says. says told m was)) done.1))
 
 pub returns-in-Put-clause-works : goal.returns-in-Put-clause-works
@@ -194,8 +194,8 @@ returns-in-Put-clause-step g c = λ told runs m shown.
     let is : IsStore c.args.store.now = c.requires.ready.is in
     let left = behind_known c.args.store.now a was.0 m is was.1 (asks.Put c.in-Put.t c.in-Put.key c.in-Put.value) (subst InRange c.in-Put.is c.requires.range) (subst (λ k. known c.args.store.now k ≡ None) c.in-Put.is (passed (known c.args.store.now c.args.command.now) (sym c.check.ensures ∙ c.in_default.is))) in
     let goes : says_stop (reply_of c.write_record.result) ≡ false = subst (λ k. says_stop k ≡ false) c.reply_of-in-Put.ensures runs in
-    rw (c.in-Put.is, c.reply_of-in-Put.ensures) (taken_step _ m (asks.Put c.in-Put.t c.in-Put.key c.in-Put.value) ((no_page m c.in-Put.t.node c.in-Put.key.0 None) ∷ []) reply_of c.write_record.result S (λ why. refl) left (where_runs reply_of c.write_record.result (λ why. refl) (c.write_record.ensures.step told m was) goes)
-    (λ behind done. answered_step m (asks.Put c.in-Put.t c.in-Put.key c.in-Put.value) tt reply_of (no_page m c.in-Put.t.node c.in-Put.key.0 None) c.write_record.result S (λ why. refl) (λ why refused. late_write m c.in-Put.t.node c.in-Put.key.0 None why tt refused) refl refl behind done))
+    rw (c.in-Put.is, c.reply_of-in-Put.ensures) (taken_step _ m (asks.Put c.in-Put.t c.in-Put.key c.in-Put.value) ((no_page m c.in-Put.t.node c.in-Put.key.0 None) ∷ []) reply_of c.write_record.result S (λ why. refl) refl left (where_runs reply_of c.write_record.result (λ why. refl) (c.write_record.ensures.step told m was) goes)
+    (λ behind done. answered_step m (asks.Put c.in-Put.t c.in-Put.key c.in-Put.value) tt reply_of (no_page m c.in-Put.t.node c.in-Put.key.0 None) c.write_record.result S (λ why. refl) (λ why refused. late_write (asks.Put c.in-Put.t c.in-Put.key c.in-Put.value) m c.in-Put.t.node c.in-Put.key.0 None why tt refused) refl refl behind done))
 
 pub returns-in-Append-clause-works : goal.returns-in-Append-clause-works
 returns-in-Append-clause-works g c = rw (c.in-Append.is, c.reply_of-in-Append.ensures) (works_says c.in-Append.t.node.0 reply_of c.write_record-in-Append.result c.args.store.now c.write_record-in-Append.new.store (g.D.Disk.state c.args.disk.now) (g.D.Disk.state c.write_record-in-Append.new.disk) (g.V.Disk.state c.args.vault.now) (g.V.Disk.state c.write_record-in-Append.new.vault) (λ why. refl) c.write_record-in-Append.ensures.works)
@@ -232,8 +232,8 @@ returns-in-Append-clause-step g c = λ told runs m shown.
     let is : IsStore c.args.store.now = c.requires.ready.is in
     let left = behind_known c.args.store.now a was.0 m is was.1 (asks.Append c.in-Append.t c.in-Append.key c.in-Append.bytes) (subst InRange c.in-Append.is c.requires.range) (subst (λ k. known c.args.store.now k ≡ None) c.in-Append.is (passed (known c.args.store.now c.args.command.now) (sym c.check.ensures ∙ c.in_default.is))) in
     let goes : says_stop (reply_of c.write_record-in-Append.result) ≡ false = subst (λ k. says_stop k ≡ false) c.reply_of-in-Append.ensures runs in
-    rw (c.in-Append.is, c.reply_of-in-Append.ensures) (taken_step _ m (asks.Append c.in-Append.t c.in-Append.key c.in-Append.bytes) ((no_page m c.in-Append.t.node c.in-Append.key.0 (too_long (seen m c.in-Append.t c.in-Append.key.0) c.in-Append.bytes)) ∷ []) reply_of c.write_record-in-Append.result S (λ why. refl) left (where_runs reply_of c.write_record-in-Append.result (λ why. refl) (c.write_record-in-Append.ensures.step told m was) goes)
-    (λ behind done. answered_step m (asks.Append c.in-Append.t c.in-Append.key c.in-Append.bytes) tt reply_of (no_page m c.in-Append.t.node c.in-Append.key.0 (too_long (seen m c.in-Append.t c.in-Append.key.0) c.in-Append.bytes)) c.write_record-in-Append.result S (λ why. refl) (λ why refused. late_write m c.in-Append.t.node c.in-Append.key.0 (too_long (seen m c.in-Append.t c.in-Append.key.0) c.in-Append.bytes) why (late_length (seen m c.in-Append.t c.in-Append.key.0) c.in-Append.bytes) refused) refl refl behind done))
+    rw (c.in-Append.is, c.reply_of-in-Append.ensures) (taken_step _ m (asks.Append c.in-Append.t c.in-Append.key c.in-Append.bytes) ((no_page m c.in-Append.t.node c.in-Append.key.0 (too_long (seen m c.in-Append.t c.in-Append.key.0) c.in-Append.bytes)) ∷ []) reply_of c.write_record-in-Append.result S (λ why. refl) refl left (where_runs reply_of c.write_record-in-Append.result (λ why. refl) (c.write_record-in-Append.ensures.step told m was) goes)
+    (λ behind done. answered_step m (asks.Append c.in-Append.t c.in-Append.key c.in-Append.bytes) tt reply_of (no_page m c.in-Append.t.node c.in-Append.key.0 (too_long (seen m c.in-Append.t c.in-Append.key.0) c.in-Append.bytes)) c.write_record-in-Append.result S (λ why. refl) (λ why refused. late_write (asks.Append c.in-Append.t c.in-Append.key c.in-Append.bytes) m c.in-Append.t.node c.in-Append.key.0 (too_long (seen m c.in-Append.t c.in-Append.key.0) c.in-Append.bytes) why (late_length (asks.Append c.in-Append.t c.in-Append.key c.in-Append.bytes) (seen m c.in-Append.t c.in-Append.key.0) c.in-Append.bytes) refused) refl refl behind done))
 
 pub returns-in-Del-clause-works : goal.returns-in-Del-clause-works
 returns-in-Del-clause-works g c = rw (c.in-Del.is, c.reply_deleted.ensures) (works_says c.in-Del.t.node.0 reply_deleted c.delete.result c.args.store.now c.delete.new.store (g.D.Disk.state c.args.disk.now) (g.D.Disk.state c.delete.new.disk) (g.V.Disk.state c.args.vault.now) (g.V.Disk.state c.delete.new.vault) (λ why. refl) c.delete.ensures.works)
@@ -270,8 +270,8 @@ returns-in-Del-clause-step g c = λ told runs m shown.
     let is : IsStore c.args.store.now = c.requires.ready.is in
     let left = behind_known c.args.store.now a was.0 m is was.1 (asks.Del c.in-Del.t c.in-Del.key) (subst InRange c.in-Del.is c.requires.range) (subst (λ k. known c.args.store.now k ≡ None) c.in-Del.is (passed (known c.args.store.now c.args.command.now) (sym c.check.ensures ∙ c.in_default.is))) in
     let goes : says_stop (reply_deleted c.delete.result) ≡ false = subst (λ k. says_stop k ≡ false) c.reply_deleted.ensures runs in
-    rw (c.in-Del.is, c.reply_deleted.ensures) (taken_step _ m (asks.Del c.in-Del.t c.in-Del.key) ((no_deletion m c.in-Del.t c.in-Del.key.0) ∷ []) reply_deleted c.delete.result S (λ why. refl) left (where_runs reply_deleted c.delete.result (λ why. refl) (c.delete.ensures.step told m was) goes)
-    (λ behind done. answered_step m (asks.Del c.in-Del.t c.in-Del.key) (is_some (seen m c.in-Del.t c.in-Del.key.0)) reply_deleted (no_deletion m c.in-Del.t c.in-Del.key.0) c.delete.result S (λ why. refl) (λ why refused. late_deletion m c.in-Del.t c.in-Del.key.0 why refused) (deleted_plain (seen m c.in-Del.t c.in-Del.key.0)) (deleted_is (seen m c.in-Del.t c.in-Del.key.0)) behind done))
+    rw (c.in-Del.is, c.reply_deleted.ensures) (taken_step _ m (asks.Del c.in-Del.t c.in-Del.key) ((no_deletion m c.in-Del.t c.in-Del.key.0) ∷ []) reply_deleted c.delete.result S (λ why. refl) refl left (where_runs reply_deleted c.delete.result (λ why. refl) (c.delete.ensures.step told m was) goes)
+    (λ behind done. answered_step m (asks.Del c.in-Del.t c.in-Del.key) (is_some (seen m c.in-Del.t c.in-Del.key.0)) reply_deleted (no_deletion m c.in-Del.t c.in-Del.key.0) c.delete.result S (λ why. refl) (λ why refused. late_deletion (asks.Del c.in-Del.t c.in-Del.key) m c.in-Del.t c.in-Del.key.0 why refused) (deleted_plain (seen m c.in-Del.t c.in-Del.key.0)) (deleted_is (seen m c.in-Del.t c.in-Del.key.0)) behind done))
 
 pub returns-in-Commit-clause-works : goal.returns-in-Commit-clause-works
 returns-in-Commit-clause-works g c = rw (c.in-Commit.is, c.reply_of-in-Commit.ensures) (works_with c.in-Commit.t.node.0 (λ h. IsStopReply h (reply_of c.end.result)) c.args.store.now c.end.new.self (g.D.Disk.state c.args.disk.now) (g.D.Disk.state c.end.new.disk) (g.V.Disk.state c.args.vault.now) (g.V.Disk.state c.end.new.vault) c.end.ensures.works)
@@ -345,8 +345,7 @@ returns-in-Abort-clause-step g c = λ told runs m shown.
     let is : IsStore c.args.store.now = c.requires.ready.is in
     let left = behind_known c.args.store.now a was.0 m is was.1 (asks.Abort c.in-Abort.t) (subst InRange c.in-Abort.is c.requires.range) (subst (λ k. known c.args.store.now k ≡ None) c.in-Abort.is (passed (known c.args.store.now c.args.command.now) (sym c.check.ensures ∙ c.in_default.is))) in
     let goes : says_stop (reply_of c.abort.result) ≡ false = subst (λ k. says_stop k ≡ false) c.reply_of-in-Abort.ensures runs in
-    rw (c.in-Abort.is, c.reply_of-in-Abort.ensures) (taken_step _ m (asks.Abort c.in-Abort.t) [] reply_of c.abort.result S (λ why. refl) left (where_runs reply_of c.abort.result (λ why. refl) (c.abort.ensures.step told m was) goes)
-    (λ none done. back_step m c.in-Abort.t c.abort.result S none done.0 done.1))
+    rw (c.in-Abort.is, c.reply_of-in-Abort.ensures) (back_step m c.in-Abort.t c.abort.result S left (where_runs reply_of c.abort.result (λ why. refl) (c.abort.ensures.step told m was) goes))
 
 pub returns-in-Flush-clause-works : goal.returns-in-Flush-clause-works
 returns-in-Flush-clause-works g c = rw (c.in-Flush.is, c.reply_flushed.ensures) (works_with c.in-Flush.n.0 (λ h. IsStopReply h (reply_flushed c.flush.result)) c.args.store.now c.flush.new.store (g.D.Disk.state c.args.disk.now) (g.D.Disk.state c.flush.new.disk) (g.V.Disk.state c.args.vault.now) (g.V.Disk.state c.flush.new.vault) c.flush.ensures.works)

@@ -1,18 +1,11 @@
-use Rattle.std.specs.Prelude.{◌≡◌, ◌⊎◌, false, true}
-use Rattle.std.proofs.Common.{inl, inr, ap, sym, ◌∙◌}
+use Rattle.std.specs.Prelude.{◌≡◌, false, true}
+use Rattle.std.proofs.Common.{ap, sym, ◌∙◌}
 use Rattle.std.proofs.lemmas.Bool.{eq-eqb}
-use Rattle.sd_base.specs.declared.device.NodeId.{NodeId}
-use Rattle.page_owner.specs.declared.owners.Own.{Own}
-use Rattle.page_owner.specs.declared.owners.Own.TheVariants.{Out, Parked}
 use Rattle.page_owner.specs.Owners.{owner_of}
 use Rattle.store_nodes.specs.Nodes.{IsHeldBy, is_up}
+use Rattle.store_pages.proofs.Holders.{has_page}
 use Rattle.store_pages.proofs.taking.holder.Goals as goal
 use Rattle.store_pages.proofs.taking.holder.Goals.{in-Parked, in-Parked-2}
-
--- the node that is found has the page
-has_page : (h k : NodeId) (found own : Own) → found ≡ own → h ≡ k → (found ≡ Parked k) ⊎ (found ≡ Out k) → IsHeldBy h own
-has_page h k found own is same (inl parked) = inl (sym is ∙ parked ∙ ap Parked (sym same))
-has_page h k found own is same (inr out) = inr (sym is ∙ out ∙ ap Out (sym same))
 
 pub node-requires : goal.node-requires
 node-requires c =
