@@ -27,6 +27,7 @@ pub mod GivenEndures
 pub mod ShownTaken
 pub mod FetchEndures
 pub mod FetchHalts
+pub mod TakeEndures
 pub mod WorksWith
 pub mod Passes
 pub mod TakenPages
