@@ -1,6 +1,6 @@
 -- A store endures that a node takes a page, which another one gives up first.
 use Rattle.std.specs.Prelude.{◌≡◌, ◌≢◌, ◌<◌, ◌≤◌, ◌∷◌, [], ℕ, zero, suc, Bool, true, false, not, IfSome, IsOk, List, None, Some, Result, Err, drop, length, refl, take}
-use Rattle.std.proofs.Common.{arith, inl, inr, ap, subst, sym, ◌∙◌}
+use Rattle.std.proofs.Common.{inl, inr, ap, subst, sym, ◌∙◌}
 use Rattle.sd_base.specs.Disk.{BlockState}
 use Rattle.sd_base.specs.Shape.{page_count}
 use Rattle.sd_base.specs.declared.device.NodeId.{NodeId}
