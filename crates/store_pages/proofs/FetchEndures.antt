@@ -1,5 +1,5 @@
 -- A store endures that a node fetches a page that no other one has.
-use Rattle.std.specs.Prelude.{◌≡◌, ◌≢◌, ◌⊎◌, ◌-◌, ◌<◌, ◌≤◌, ◌∷◌, [], ℕ, true, false, All, List, Option, Some, None, IfSome, MatchOption, count_by, is_some, refl, slice_set}
+use Rattle.std.specs.Prelude.{◌≡◌, ◌≢◌, ◌⊎◌, ◌==◌, ◌-◌, ◌<◌, ◌≤◌, ◌∷◌, [], ℕ, true, false, All, List, Option, Some, None, IfSome, MatchOption, count_by, drop, if◌then◌else◌, is_some, refl, slice_set}
 use Rattle.std.proofs.Common.{arith, inl, inr, ap, subst, sym, ◌∙◌}
 use Rattle.sd_base.specs.Disk.{BlockState, IsLawful}
 use Rattle.sd_base.specs.Places.{map_of_data, page_of_place}
@@ -26,11 +26,13 @@ use Rattle.node_cache.proofs.Leaving.{all_left}
 use Rattle.txn_core.specs.Seats.{SeatsState}
 use Rattle.recovery_theory.specs.History.{History}
 use Rattle.recovery_theory.specs.Steps.{passed}
-use Rattle.record_machine.specs.Machine.{Machine, put}
+use Rattle.record_machine.specs.Machine.{LooseChange, Machine, put}
 use Rattle.record_machine.specs.Meaning.{Plain}
 use Rattle.record_machine.specs.Parts.{Take, loose_after_take, one}
+use Rattle.record_machine.specs.Stops.{any_up, changes_back, down, stop, with_tables}
 use Rattle.record_machine.proofs.LockSteps.{means_taken}
 use Rattle.record_machine.proofs.LostTables.{taken_still}
+use Rattle.record_machine.proofs.RestSteps.{means_rest}
 use Rattle.record_machine.proofs.SameHolds.{again_loose, survives_as_same, taken_again}
 use Rattle.store_nodes.specs.declared.node.Node.{Node}
 use Rattle.store_nodes.specs.declared.node.Node.TheVariants.{Up}
@@ -49,22 +51,21 @@ use Rattle.store_nodes.proofs.Ties.{tie_left}
 use Rattle.store_nodes.proofs.Works.{work_at}
 use Rattle.store_pages.proofs.PagedEndures.{HasWritten, all_of, has_written}
 use Rattle.store_pages.proofs.ShownFetch.{up_fetched, up_missed, up_taken}
-use Rattle.store_pages.proofs.ShownTaken.{holder_fetched, node_taken, settled_open}
+use Rattle.store_pages.proofs.ShownTaken.{holder_fetched, node_held, settled_open}
 use Rattle.store_pages.proofs.Takes.{all_out, owner_fetched}
 
--- ---- a page that the node has
+-- ---- the same pages are held, and the same changes are loose
 
--- it takes it again
-pub endures_again : (c : Store) (b : ℕ → BlockState) (p : Plain) (m : Machine) (x n : ℕ) → x < page_count c.shape → holder (owner_of c.shared.owners x) ≡ Some n → EnduresAs c b p m → EnduresAs c b p (one (Take x n) m)
-endures_again c b p m x n within holds e = record {
+pub endures_same : (c : Store) (b : ℕ → BlockState) (p : Plain) (m : Machine) (hold : ℕ → Option ℕ) (loose : ℕ → List LooseChange) → ((y : ℕ) → hold y ≡ m.hold y) → ((j : ℕ) → loose j ≡ m.loose j) → EnduresAs c b p m → EnduresAs c b p (record m { hold = hold; loose = loose })
+endures_same c b p m hold loose holds looses e = record {
   held = e.held;
   dirty = e.dirty;
   history = e.history;
   nodes = record {
-    means = means_taken p (with_held e.held m) x n e.nodes.means;
+    means = means_rest p (with_held e.held m) m.mode m.reopening hold m.first loose m.gone e.nodes.means;
     shape = e.nodes.shape;
-    node = λ k k_is low. node_taken c.shape c.shared.pool k (node_at c.nodes k) b p (with_held e.held m) x n (e.nodes.node k k_is low);
-    hold = λ y inside. taken_again m x n y has ∙ e.nodes.hold y inside;
+    node = λ k k_is low. node_held c.shape c.shared.pool k (node_at c.nodes k) b p (with_held e.held m) hold loose (e.nodes.node k k_is low);
+    hold = λ y inside. holds y ∙ e.nodes.hold y inside;
   };
   locks = e.locks;
   reopening = e.reopening;
@@ -72,11 +73,19 @@ endures_again c b p m x n within holds e = record {
   clean = e.clean;
   lost = e.lost;
   tied = e.tied;
-  survives = survives_as_same e.held e.dirty e.history p m (put x (Some n) m.hold) (loose_after_take x n m) (λ y. taken_again m x n y has) (λ j. again_loose m x n j has) e.survives;
+  survives = survives_as_same e.held e.dirty e.history p m hold loose holds looses e.survives;
 }
-  where
-    has : m.hold x ≡ Some n
-    has = e.nodes.hold x within ∙ holds
+
+-- as where the node takes a page again that it has,
+pub endures_again : (c : Store) (b : ℕ → BlockState) (p : Plain) (m : Machine) (x n : ℕ) → x < page_count c.shape → holder (owner_of c.shared.owners x) ≡ Some n → EnduresAs c b p m → EnduresAs c b p (one (Take x n) m)
+endures_again c b p m x n within holds e =
+    let has : m.hold x ≡ Some n = e.nodes.hold x within ∙ holds in
+    endures_same c b p m (put x (Some n) m.hold) (loose_after_take x n m) (λ y. taken_again m x n y has) (λ j. again_loose m x n j has) e
+
+-- also where node n stops
+pub endures_stop_same : (c : Store) (b : ℕ → BlockState) (p : Plain) (m : Machine) (hold : ℕ → Option ℕ) (loose : ℕ → List LooseChange) (n kept : ℕ) → ((y : ℕ) → hold y ≡ m.hold y) → ((j : ℕ) → loose j ≡ m.loose j) → EnduresAs c b p (stop n kept m) → EnduresAs c b p (stop n kept (record m { hold = hold; loose = loose }))
+endures_stop_same c b p m hold loose n kept holds looses e = subst (λ l. EnduresAs c b p (with_tables (down n (changes_back n (drop kept l) (record m { hold = hold; loose = loose }))))) (sym (looses n))
+    (endures_same c b p (stop n kept m) (λ y. if any_up (down n m) then hold y else None) (put n [] loose) (λ y. ap (λ o. if any_up (down n m) then o else None) (holds y)) (λ j. ap (λ l. if j == n then [] else l) (looses j)) e)
 
 -- ---- a page that passes
 

@@ -28,6 +28,7 @@ pub mod FlushedEndures
 pub mod ShownTaken
 pub mod FetchEndures
 pub mod FetchHalts
+pub mod TakeEndures
 pub mod WorksWith
 pub mod Passes
 pub mod TakenPages

@@ -24,9 +24,9 @@ use Rattle.node_cache.proofs.Fetched.{uncached}
 use Rattle.node_cache.proofs.ChangedPages.{out_of_shown}
 use Rattle.node_cache.proofs.Leaving.{all_left}
 use Rattle.txn_core.specs.Seats.{SeatsState}
-use Rattle.record_machine.specs.Machine.{Machine, put}
+use Rattle.record_machine.specs.Machine.{LooseChange, Machine, put}
 use Rattle.record_machine.specs.Meaning.{Plain}
-use Rattle.record_machine.specs.Parts.{Take, one}
+use Rattle.record_machine.specs.Parts.{Take, loose_after_take, one}
 use Rattle.record_machine.proofs.LockSteps.{means_taken}
 use Rattle.store_nodes.specs.declared.node.Node.{Node}
 use Rattle.store_nodes.specs.declared.node.Node.TheVariants.{Idle, Up, Down}
@@ -84,10 +84,11 @@ settled_open me n x c seats is place up free missing = settled_clean me n x c se
 
 -- ---- a page that the node holds already
 
-pub node_taken : (s : Shape) (pool : List (Option (List ℕ))) (k : ℕ) (o : Node) (b : ℕ → BlockState) (p : Plain) (m : Machine) (x n : ℕ) → ShowsNode s pool k o b p m → ShowsNode s pool k o b p (one (Take x n) m)
-node_taken s pool k Idle b p m x n was = (was.0, record { legal = was.1.legal; still = was.1.still; content = was.1.content; clean = was.1.clean; names = was.1.names; none = was.1.none })
-node_taken s pool k (Up c seats) b p m x n was = (was.0, record { records = was.1.records; told = was.1.told; start = was.1.start; cached = was.1.cached; lives = was.1.lives; deeds = was.1.deeds; within = was.1.within })
-node_taken s pool k Down b p m x n was = was
+-- what a node shows doesn't hang on who holds the pages, nor on what is loose
+pub node_held : (s : Shape) (pool : List (Option (List ℕ))) (k : ℕ) (o : Node) (b : ℕ → BlockState) (p : Plain) (m : Machine) (hold : ℕ → Option ℕ) (loose : ℕ → List LooseChange) → ShowsNode s pool k o b p m → ShowsNode s pool k o b p (record m { hold = hold; loose = loose })
+node_held s pool k Idle b p m hold loose was = (was.0, record { legal = was.1.legal; still = was.1.still; content = was.1.content; clean = was.1.clean; names = was.1.names; none = was.1.none })
+node_held s pool k (Up c seats) b p m hold loose was = (was.0, record { records = was.1.records; told = was.1.told; start = was.1.start; cached = was.1.cached; lives = was.1.lives; deeds = was.1.deeds; within = was.1.within })
+node_held s pool k Down b p m hold loose was = was
 
 pub shown_taken : (c : Store) (b : ℕ → BlockState) (m : Machine) (x n : ℕ) → holder (owner_of c.shared.owners x) ≡ Some n → IsShown c b m → IsShown c b (one (Take x n) m)
 shown_taken c b m x n holds shown = (
@@ -96,7 +97,7 @@ shown_taken c b m x n holds shown = (
     nodes = record {
       means = means_taken shown.0 m x n was.means;
       shape = was.shape;
-      node = λ k k_is low. node_taken c.shape c.shared.pool k (node_at c.nodes k) b shown.0 m x n (was.node k k_is low);
+      node = λ k k_is low. node_held c.shape c.shared.pool k (node_at c.nodes k) b shown.0 m (put x (Some n) m.hold) (loose_after_take x n m) (was.node k k_is low);
       stored = was.stored;
       hold = λ y within. by y within (y == x) refl;
     };

@@ -1,6 +1,6 @@
 //! A page that is nobody's, or a node's own, comes into the node's cache.
 
-ghost use Rattle.std.specs.Prelude.{◌≡◌, ◌<◌, ◌≤◌, ◌∷◌, [], false, true, IsTrue, IsOk, IfErr, OnOk};
+ghost use Rattle.std.specs.Prelude.{◌≡◌, ◌<◌, ◌≤◌, [], false, true, IsTrue, IsOk, IfErr, OnOk};
 ghost use Rattle.sd_base.specs.Calls.{Narrows};
 ghost use Rattle.sd_base.specs.Places.{map_of_data};
 ghost use Rattle.sd_base.specs.Shape.{page_count};
@@ -57,7 +57,7 @@ pub(crate) fn fetch<D: Disk, V: Disk>(
     ensures shows { OnOk result (IsTrue D.told → (m : Machine) → IsShown store.old (D.state disk.old).block m → IsShown store.new (D.state disk.new).block (one (Take x.0 n.0) m)) }
     ensures stopped { IfErr result (λ why. IsTrue D.told → (m : Machine) → IsShown store.old (D.state disk.old).block m → says_stop why ≡ true) }
     ensures led { UnlessStop result (IsTrue D.told → (m : Machine) → m.reopening ≡ false → Endures store.old (D.state disk.old).block m → Endures store.new (D.state disk.new).block (one (Take x.0 n.0) m)) }
-    ensures halts { IfErr result (λ why. IsTrue D.told → (m : Machine) → m.reopening ≡ false → Endures store.old (D.state disk.old).block m → LedOnStop n.0 why (Take x.0 n.0 ∷ []) m (Endures store.new (D.state disk.new).block)) }
+    ensures halts { IfErr result (λ why. IsTrue D.told → (m : Machine) → m.reopening ≡ false → Endures store.old (D.state disk.old).block m → LedOnStop n.0 why [] (one (Take x.0 n.0) m) (Endures store.new (D.state disk.new).block)) }
     ensures map { OnOk result (store.old.shape.maps ≤ x.0 → (image : MapImage) → ShowsMap store.old n.0 (map_of_data store.old.shape x) image → ShowsMap store.new n.0 (map_of_data store.old.shape x) image) }
     ensures cached { OnOk result (HasCached store.new n.0 x) }
     ensures made_room { OnOk result (IsTrue D.told → MadeRoom n.0 x store.old store.new (D.state disk.old).block (D.state disk.new).block) }

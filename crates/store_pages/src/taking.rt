@@ -1,6 +1,6 @@
 //! A node takes a page: whoever else has it gives it up first, and then it comes into the node's cache.
 
-ghost use Rattle.std.specs.Prelude.{◌≡◌, ◌≢◌, ◌<◌, ◌≤◌, true, ℕ, None, Err, IsTrue, IsOk, IfErr, IfOk, IfSome, OnOk};
+ghost use Rattle.std.specs.Prelude.{◌≡◌, ◌≢◌, ◌<◌, ◌≤◌, ◌∷◌, [], false, true, ℕ, None, Err, IsTrue, IsOk, IfErr, IfOk, IfSome, OnOk};
 ghost use Rattle.sd_base.specs.Calls.{Narrows};
 ghost use Rattle.sd_base.specs.Places.{map_of_data};
 ghost use Rattle.sd_base.specs.Shape.{page_count};
@@ -8,11 +8,13 @@ ghost use Rattle.space_map.specs.Image.{MapImage};
 ghost use Rattle.private_log.specs.Reading.{contents};
 ghost use Rattle.page_owner.specs.Owners.{owner_of};
 ghost use Rattle.node_cache.specs.Room.{IsEntryOf, IsOpenTo};
+ghost use Rattle.record_machine.specs.Led.{LedOnStop};
 ghost use Rattle.record_machine.specs.Machine.{Machine};
 ghost use Rattle.record_machine.specs.Parts.{Take, one};
 ghost use Rattle.record_machine.specs.Steps.{held_page};
 ghost use Rattle.store_nodes.specs.declared.node.Node.TheVariants.{Down};
 ghost use Rattle.store_nodes.specs.Causes.{IsFaultOfTake, IsToldOfPages};
+ghost use Rattle.store_nodes.specs.Endures.{Endures};
 ghost use Rattle.store_nodes.specs.Footprint.{KeepsHoldersBut, TookPage};
 ghost use Rattle.store_nodes.specs.Known.{held_in};
 ghost use Rattle.store_nodes.specs.Nodes.{IsHeldBy, IsPlace, IsStore, OnUp, is_up, node_at};
@@ -84,6 +86,8 @@ fn pass<D: Disk, V: Disk>(
     ensures holders { UnlessStop result ((y : PageNo) → held_in store.new y ≡ held_in store.old y) }
     ensures shows { OnOk result (IsTrue D.told → (m : Machine) → IsShown store.old (D.state disk.old).block m → IsShown store.new (D.state disk.new).block (one (Take x.0 n.0) m)) }
     ensures stopped { IfErr result (λ why. IsTrue D.told → (m : Machine) → IsShown store.old (D.state disk.old).block m → says_stop why ≡ true) }
+    ensures led { UnlessStop result (IsTrue D.told → (m : Machine) → m.reopening ≡ false → Endures store.old (D.state disk.old).block m → Endures store.new (D.state disk.new).block (one (Take x.0 n.0) m)) }
+    ensures halts { IfErr result (λ why. IsTrue D.told → (m : Machine) → m.reopening ≡ false → Endures store.old (D.state disk.old).block m → LedOnStop n.0 why (Take x.0 n.0 ∷ []) m (Endures store.new (D.state disk.new).block)) }
     ensures map { OnOk result (store.old.shape.maps ≤ x.0 → (image : MapImage) → ShowsMap store.old n.0 (map_of_data store.old.shape x) image → ShowsMap store.new n.0 (map_of_data store.old.shape x) image) }
     ensures cached { OnOk result (HasCached store.new n.0 x) }
     ensures made_room { OnOk result (IsTrue D.told → TookPage n x store.old store.new (D.state disk.old).block (D.state disk.new).block) }
@@ -126,6 +130,8 @@ pub fn take<D: Disk, V: Disk>(
     ensures shows { OnOk result (IsTrue D.told → (m : Machine) → IsShown store.old (D.state disk.old).block m → IsShown store.new (D.state disk.new).block (one (Take x.0 n.0) m)) }
     ensures refused { IsTrue D.told → (m : Machine) → IsShown store.old (D.state disk.old).block m → held_page m x.0 ≡ held_in store.old x }
     ensures stopped { IfErr result (λ why. IsTrue D.told → (m : Machine) → IsShown store.old (D.state disk.old).block m → held_in store.old x ≡ None → says_stop why ≡ true) }
+    ensures led { held_in store.old x ≡ None → UnlessStop result (IsTrue D.told → (m : Machine) → m.reopening ≡ false → Endures store.old (D.state disk.old).block m → Endures store.new (D.state disk.new).block (one (Take x.0 n.0) m)) }
+    ensures halts { IfErr result (λ why. IsTrue D.told → (m : Machine) → m.reopening ≡ false → Endures store.old (D.state disk.old).block m → LedOnStop n.0 why (Take x.0 n.0 ∷ []) m (Endures store.new (D.state disk.new).block)) }
     ensures map { OnOk result (store.old.shape.maps ≤ x.0 → (image : MapImage) → ShowsMap store.old n.0 (map_of_data store.old.shape x) image → ShowsMap store.new n.0 (map_of_data store.old.shape x) image) }
     ensures cached { OnOk result (HasCached store.new n.0 x) }
     ensures made_room { OnOk result (IsTrue D.told → TookPage n x store.old store.new (D.state disk.old).block (D.state disk.new).block) }

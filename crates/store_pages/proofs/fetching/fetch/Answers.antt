@@ -1,4 +1,4 @@
-use Rattle.std.specs.Prelude.{◌≡◌, ◌≢◌, ◌<◌, ◌≤◌, ◌∷◌, [], ℕ, Bool, true, false, IsTrue, Some, None, Err, refl, length, slice_set}
+use Rattle.std.specs.Prelude.{◌≡◌, ◌≢◌, ◌<◌, ◌≤◌, [], ℕ, Bool, true, false, IsTrue, Some, None, Err, refl, length, slice_set}
 use Rattle.std.proofs.Common.{arith, inl, inr, ap, subst, subst₂, sym, ◌∙◌, length-set}
 use Rattle.sd_base.specs.Calls.{Keeps, Keeps-then}
 use Rattle.sd_base.specs.Disk.{IsFreeFor}
@@ -779,12 +779,12 @@ returns-clause-halts g c = λ told m unlost was.
     let after = c.give_up.ensures.works.ready.is in
     let single : (y : PageNo) → y.0 < page_count s → (b2 (page_place s y)).writer ≡ None = λ y inside. subst (λ z. (b2 (page_place z y)).writer ≡ None) c.give_up.ensures.works.shape (page_still new.shape new.nodes b2 y after.shared.shape (up_most new.shape new.shared.pool new.shared.owners new.nodes after) (c.give_up.ensures.quiet told)) in
     let recs = (log_shown me n c.place.result k seats is c.requires.node c.place.ensures.is up a p m was.1).on in
-    subst (λ why. LedOnStop n why (Take c.args.x.0 n ∷ []) m (Endures new b2)) (sym c.give_up.ensures.says)
-    (led_on_stop n (first_page s) f (Take c.args.x.0 n ∷ []) m (Endures new b2) (page_stop s c.args.x n f (subst (λ j. IsPageFault s c.args.x j f) work.number c.in-Err.ensures.fault)) (λ stop.
+    subst (λ why. LedOnStop n why [] (one (Take c.args.x.0 n) m) (Endures new b2)) (sym c.give_up.ensures.says)
+    (led_on_stop n (first_page s) f [] (one (Take c.args.x.0 n) m) (Endures new b2) (page_stop s c.args.x n f (subst (λ j. IsPageFault s c.args.x j f) work.number c.in-Err.ensures.fault)) (λ stop.
     let halts : MayHalt n (record { shape = s; shared = record { pool = done.new.pool; owners = done.new.owners; locks = me.shared.locks; reopening = me.shared.reopening }; nodes = slice_set me.nodes c.place.result (Up d seats) }) b2 (one (Take c.args.x.0 n) m) = (
       p,
       subst (λ i. MayHaltAs n (record { shape = s; shared = record { pool = done.new.pool; owners = done.new.owners; locks = me.shared.locks; reopening = me.shared.reopening }; nodes = slice_set me.nodes i (Up d seats) }) b2 p (one (Take c.args.x.0 n) m)) (sym c.place.ensures.is)
           (fetch_halts me c.args.n c.args.x c.args.e k d seats a b2 p m was.1 is c.requires.node up c.requires.page c.requires.open fresh entry done.new.pool done.new.owners unlost b (done.ensures.outcomes told) (done.ensures.foreign told) (c.requires.quiet told)
           (c.give_up.ensures.outcomes told) (c.give_up.ensures.foreign told) (λ j. g.met.D.Disk.lawful c.give_up.new.disk j told) single (of_stop n f _ stop c.in-Err.ensures.still told) (of_stop n f _ stop (c.in-Err.ensures.cut told _ recs)) (done.ensures.ahead told _ recs) (frames_err g c) (holds_err g c)),
     ) in
-    broke_here n (Take c.args.x.0 n ∷ []) 1 m (Endures new b2) (no_unlock (Take c.args.x.0 n ∷ []) refl) (of_stop n f _ stop c.give_up.ensures.led told (one (Take c.args.x.0 n) m) halts)))
+    broke_here n [] 0 (one (Take c.args.x.0 n) m) (Endures new b2) (no_unlock [] refl) (of_stop n f _ stop c.give_up.ensures.led told (one (Take c.args.x.0 n) m) halts)))

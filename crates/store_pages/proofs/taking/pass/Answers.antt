@@ -1,4 +1,4 @@
-use Rattle.std.specs.Prelude.{◌≡◌, ◌≤◌, ℕ, OnOk}
+use Rattle.std.specs.Prelude.{◌≡◌, ◌≤◌, ◌∷◌, [], ℕ, OnOk}
 use Rattle.std.proofs.Common.{arith, inl, inr, ap, subst, subst₂, sym, ◌∙◌, get_or-set_other, get_or-set_same}
 use Rattle.std.proofs.lemmas.Bool.{cases_eq}
 use Rattle.sd_base.specs.Places.{map_of_data}
@@ -6,14 +6,18 @@ use Rattle.page_owner.specs.declared.owners.Own.TheVariants.{Nobody}
 use Rattle.page_owner.specs.Owners.{owner_of}
 use Rattle.node_cache.specs.Room.{IsEntryOf}
 use Rattle.space_map.specs.Image.{MapImage}
-use Rattle.record_machine.specs.Parts.{Drop, one}
+use Rattle.record_machine.specs.Led.{LedOnStop}
+use Rattle.record_machine.specs.Parts.{Drop, Take, one}
+use Rattle.store_nodes.specs.Endures.{Endures}
 use Rattle.store_nodes.specs.Nodes.{IsPlace, OnUp, is_up, node_at}
 use Rattle.store_nodes.specs.Pages.{HasMap, ShowsMap}
 use Rattle.store_nodes.specs.Ports.{SaysStopOf, WorksWith}
 use Rattle.store_nodes.specs.Shows.{holder}
 use Rattle.store_nodes.proofs.Holders.{open_free}
 use Rattle.store_pages.proofs.Passes.{held_given, map_apart, on_done, on_error, on_live, says_of, stops_up, took_page}
+use Rattle.store_pages.proofs.Results.{passed_on}
 use Rattle.store_pages.proofs.ShownHeld.{dropped_taken}
+use Rattle.store_pages.proofs.TakeEndures.{endures_passed, held_there, led_before, led_behind, stop_passed}
 use Rattle.store_pages.proofs.Takes.{entry_kept}
 use Rattle.store_pages.proofs.WorksWith.{stays_seats, works_for, works_with, works_with_then, writes_for, writes_with, writes_with_then}
 use Rattle.store_pages.proofs.taking.pass.Goals as goal
@@ -131,3 +135,31 @@ returns-clause-made_room g c =
     let far : c.args.n.0 ≡ c.args.h.0 → ⊥ = λ e. c.requires.other (sym e) in
     on_done c.fetch.result c.fetch.ensures.made_room (λ made told.
     took_page c.args.n c.args.h c.args.x me mid c.fetch.new.store (g.D.Disk.state c.args.disk.now).block (g.D.Disk.state c.surrender.new.disk).block (g.D.Disk.state c.fetch.new.disk).block (works.others c.args.n.0 c.requires.node far) works.shape c.requires.other c.requires.has (c.in_ok-surrender.ensures.pages told) (made told))
+
+-- ---- what the store endures
+
+pub returns-in_err-surrender-clause-halts : goal.returns-in_err-surrender-clause-halts
+returns-in_err-surrender-clause-halts g c =
+    let me = c.args.store.now in
+    let n = c.args.n.0 in
+    let h = c.args.h.0 in
+    let x = c.args.x in
+    let a = (g.D.Disk.state c.args.disk.now).block in
+    let S = Endures c.surrender.new.store (g.D.Disk.state c.surrender.new.disk).block in
+    passed_on c.from_residual.result _ _ c.from_residual.ensures.1 (λ why same told m unlost was.
+    subst (λ r. LedOnStop n r (Take x.0 n ∷ []) m S) (sym same)
+    (led_before n x.0 m S h c.in_err-surrender.field-0.0 c.in_err-surrender.ensures.stopped (held_there me a was.0 m x c.args.h c.requires.page c.requires.has was.1) (c.in_err-surrender.ensures.led told m unlost was)))
+
+pub returns-clause-led : goal.returns-clause-led
+returns-clause-led g c =
+    let new = c.fetch.new.store in
+    let b = (g.D.Disk.state c.fetch.new.disk).block in
+    on_live c.fetch.result c.fetch.ensures.led (λ led told m unlost was. endures_passed new b m c.args.x.0 c.args.n.0 c.args.h.0 (held_there c.args.store.now (g.D.Disk.state c.args.disk.now).block was.0 m c.args.x c.args.h c.requires.page c.requires.has was.1) c.requires.other (led told (one (Drop c.args.x.0) m) unlost (c.in_ok-surrender.ensures.led told m unlost was)))
+
+pub returns-clause-halts : goal.returns-clause-halts
+returns-clause-halts g c =
+    let new = c.fetch.new.store in
+    let b = (g.D.Disk.state c.fetch.new.disk).block in
+    on_error c.fetch.result _ _ c.fetch.ensures.halts (λ why halts told m unlost was.
+    let held = held_there c.args.store.now (g.D.Disk.state c.args.disk.now).block was.0 m c.args.x c.args.h c.requires.page c.requires.has was.1 in
+    led_behind c.args.n.0 c.args.x.0 m (Endures new b) (one (Take c.args.x.0 c.args.n.0) (one (Drop c.args.x.0) m)) why (stop_passed new b m c.args.x.0 c.args.n.0 c.args.h.0 held c.requires.other) (halts told (one (Drop c.args.x.0) m) unlost (c.in_ok-surrender.ensures.led told m unlost was)))
