@@ -9,9 +9,10 @@ use Rattle.script_text.specs.declared.command.Command.TheVariants as asks
 use Rattle.script_text.specs.declared.reply.Reply.{Reply}
 use Rattle.script_text.specs.declared.reply.Reply.TheVariants as says
 use Rattle.record_machine.specs.Commands.{MayAnswer, TellsFlush, deleted, first_of, takes}
+use Rattle.record_machine.specs.Led.{Broke, Led}
 use Rattle.record_machine.specs.Machine.{Machine}
 use Rattle.record_machine.specs.Parts.{Part, dos}
-use Rattle.record_machine.specs.Steps.{NextOrStop, RowOrStop, StaysAs, StepOrStop, held, met, met_held, parts_of, refused_for}
+use Rattle.record_machine.specs.Steps.{NextOrStop, RowOrStop, StaysAs, StepOrStop, held, met, met_held, parts_of, refused_for, worker}
 use Rattle.record_machine.specs.Steps as when
 use Rattle.store_nodes.specs.Ports.{UnlessStop, says_stop}
 use Rattle.store_commands.specs.Answering.{Answers, AnswersWith, reply_deleted, reply_found, reply_of}
@@ -107,6 +108,14 @@ pub done_call : {T : Type 0} (m : Machine) (c : Command) (say : Result T Reply �
     → IfOk r (λ value. is_plain (say (Ok value)) ≡ true) → IfOk r (λ value. MayAnswer m c (say (Ok value))) → OnOk r (S (dos (parts_of m c) m)) → StepOrStop m c (say r) S
 done_call m c say (Ok value) S err is stops runs plain may after = done_step m c (say (Ok value)) S plain is may after
 done_call m c say (Err why) S err is stops runs plain may after = let never : true ≡ false = sym stops ∙ ap says_stop (sym (err why)) ∙ runs in cc
+
+-- or its node stopped in it
+pub led_call : {T : Type 0} (n : ℕ) (m : Machine) (c : Command) (say : Result T Reply → Reply) (r : Result T Reply) (S : Machine → Type 0) → ((why : Reply) → say (Err why) ≡ why) → worker c ≡ n → refused_for m c ≡ None
+    → IfOk r (λ value. is_plain (say (Ok value)) ≡ true) → IfOk r (λ value. MayAnswer m c (say (Ok value))) → Led n r (parts_of m c) m S → StepOrStop m c (say r) S
+led_call n m c say (Ok value) S err at is plain may led = done_step m c (say (Ok value)) S plain is may led
+led_call n m c say (Err (says.Stopped h)) S err at is plain may led = subst (λ k. StepOrStop m c k S) (sym (err (says.Stopped h))) (rw is (subst (λ j. Broke j h.0 (parts_of m c) m S) (sym at) led))
+led_call n m c say (Err (says.Fault h)) S err at is plain may led = subst (λ k. StepOrStop m c k S) (sym (err (says.Fault h))) (rw is (subst (λ j. Broke j h.0 (parts_of m c) m S) (sym at) led))
+led_call n m c say (Err why) S err at is plain may led = absurd led
 
 pub all_ok : {T E : Type 0} (r : Result T E) (P : T → Type 0) → ((value : T) → P value) → IfOk r P
 all_ok (Ok value) P all = all value

@@ -1,5 +1,6 @@
--- The commands on a record: which one, the page that it comes to stand in, and whether it was done.
-use Rattle.std.specs.Prelude.{ℕ, Bool, true, false, Option, Some, None}
+-- The commands on a record: which one, the page that it comes to stand in, and whether it was done; and which commands take pages.
+use Rattle.std.specs.Prelude.{◌≡◌, ◌<◌, ℕ, Bool, true, false, Option, Some, None}
+use Rattle.sd_base.specs.Shape.{page_count}
 use Rattle.sd_base.specs.declared.names.Key.{Key}
 use Rattle.script_text.specs.declared.command.Command.{Command}
 use Rattle.script_text.specs.declared.command.Command.TheVariants as asks
@@ -41,3 +42,17 @@ is_refusal (says.NoSpace x) = true
 is_refusal (says.TooLong len) = true
 is_refusal (says.LogFull need room) = true
 is_refusal reply = false
+
+-- the command takes pages
+abbrev pub takes_pages : Command → Bool
+takes_pages (asks.Get t key) = true
+takes_pages (asks.Put t key value) = true
+takes_pages (asks.Append t key bytes) = true
+takes_pages (asks.Del t key) = true
+takes_pages (asks.Abort t) = true
+takes_pages (asks.Dump n) = true
+takes_pages command = false
+
+-- no page of the store is lost
+abbrev pub AreAllThere : Machine → Type 0
+AreAllThere m = (x : ℕ) → x < page_count m.shape → m.gone x ≡ false

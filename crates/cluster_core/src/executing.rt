@@ -9,6 +9,7 @@ ghost use Rattle.record_machine.specs.Machine.{Machine};
 ghost use Rattle.record_machine.specs.Rows.{dumped_by};
 ghost use Rattle.record_machine.specs.Steps.{StepOrStop, worker};
 ghost use Rattle.store_nodes.specs.declared.node.Node.TheVariants.{Down};
+ghost use Rattle.store_nodes.specs.Endures.{Endures};
 ghost use Rattle.store_nodes.specs.Footprint.{KeepsAllButLog, NarrowsToRing};
 ghost use Rattle.store_nodes.specs.Known.{known};
 ghost use Rattle.store_nodes.specs.Nodes.{OnUp, node_at};
@@ -18,7 +19,7 @@ ghost use Rattle.store_nodes.specs.Shows.{IsShown};
 ghost use Rattle.store_commands.specs.Aborts.{RefusesHeld};
 ghost use Rattle.store_commands.specs.AtHand.{HasBoth, IsAtHand, IsAtHandToDelete, MakesRoomWith};
 ghost use Rattle.cluster_core.specs.Answers.{IsAnswer, IsToldIn, LeavesOpen};
-ghost use Rattle.cluster_core.specs.Records.{is_refusal, key_of, page_then, says_done};
+ghost use Rattle.cluster_core.specs.Records.{AreAllThere, is_refusal, key_of, page_then, says_done, takes_pages};
 
 use crate::cluster::Cluster;
 use crate::replies::{reply_deleted, reply_flushed, reply_found, reply_of};
@@ -61,6 +62,7 @@ fn execute<D: Arm, V: Arm>(
     ensures stat { (n : NodeId) → command.now ≡ Command.Stat n → (store.new ≡ store.old) × (disk.new ≡ disk.old) × (vault.new ≡ vault.old) }
     ensures held { IsTrue D.told → known store.old command.now ≡ None → (t : TxnId) → command.now ≡ Command.Abort t → RefusesHeld store.old store.new (D.state disk.old).block (D.state disk.new).block t result }
     ensures step { IsTrue D.told → says_stop result ≡ false → (m : Machine) → IsShown store.old (D.state disk.old).block m → StepOrStop m command.now result (IsShown store.new (D.state disk.new).block) }
+    ensures led { IsTrue D.told → takes_pages command.now ≡ false → (m : Machine) → m.reopening ≡ false → AreAllThere m → Endures store.old (D.state disk.old).block m → StepOrStop m command.now result (Endures store.new (D.state disk.new).block) }
 {
     if let Err(why) = store.check(command) {
         return why;
@@ -116,6 +118,7 @@ impl Cluster {
         ensures stat { (n : NodeId) → command.now ≡ Command.Stat n → (self.new ≡ self.old) × (disk.new ≡ disk.old) × (vault.new ≡ vault.old) }
         ensures held { IsTrue D.told → known self.old command.now ≡ None → (t : TxnId) → command.now ≡ Command.Abort t → RefusesHeld self.old self.new (D.state disk.old).block (D.state disk.new).block t result }
         ensures step { IsTrue D.told → says_stop result ≡ false → (m : Machine) → IsShown self.old (D.state disk.old).block m → StepOrStop m command.now result (IsShown self.new (D.state disk.new).block) }
+        ensures led { IsTrue D.told → takes_pages command.now ≡ false → (m : Machine) → m.reopening ≡ false → AreAllThere m → Endures self.old (D.state disk.old).block m → StepOrStop m command.now result (Endures self.new (D.state disk.new).block) }
     {
         execute(&mut self.store, disk, vault, command)
     }

@@ -1,5 +1,7 @@
-use Rattle.std.specs.Prelude.{◌≡◌, ◌∷◌, ◌≤◌, [], true, false, ℕ, Bool, List, Option, Some, None, IfErr, IfOk, IsTrue, Ok, Err, OnOk, is_some, refl}
+use Rattle.std.specs.Prelude.{◌≡◌, ◌∷◌, ◌<◌, ◌≤◌, [], true, false, ℕ, Bool, List, Option, Some, None, IfErr, IfOk, IsTrue, Ok, Err, OnOk, is_some, refl}
 use Rattle.std.proofs.Common.{ap, subst, sym, ◌∙◌}
+use Rattle.sd_base.specs.Disk.{BlockState}
+use Rattle.sd_base.specs.Shape.{page_count}
 use Rattle.sd_base.specs.declared.device.NodeId.{NodeId}
 use Rattle.sd_base.specs.declared.names.Key.{Key}
 use Rattle.sd_base.specs.declared.names.TxnId.{TxnId}
@@ -13,13 +15,16 @@ use Rattle.record_machine.specs.Machine.{Machine, home, seen}
 use Rattle.record_machine.specs.Steps.{worker}
 use Rattle.txn_core.specs.declared.change.Change.TheVariants.{Append, Delete, Put}
 use Rattle.store_nodes.specs.declared.node.Node.TheVariants.{Down}
+use Rattle.store_nodes.specs.declared.store.Store.{Store}
 use Rattle.store_nodes.specs.Causes.{IsLogReply, IsToldDamaged, IsToldOfPages}
+use Rattle.store_nodes.specs.Endures.{Endures}
 use Rattle.store_nodes.specs.Footprint.{KeepsAllButLog, NarrowsToRing}
 use Rattle.store_nodes.specs.Known.{known, no_node, state_of}
 use Rattle.store_nodes.specs.Nodes.{IsStore, OnUp, node_at}
 use Rattle.store_nodes.specs.Pages.{KeepsWork, WritesBack}
 use Rattle.store_nodes.specs.Ports.{HasCause, IsQuiet, IsReady, IsStopReply, says_stop}
 use Rattle.store_nodes.specs.Shows.{IsShown}
+use Rattle.store_nodes.proofs.EnduresShown.{endures_shown}
 use Rattle.store_pages.proofs.WorksWith.{works_same, works_with, writes_with}
 use Rattle.store_commands.specs.Aborts.{IsAbortFault, IsToldOfAbort, KeepsOpen}
 use Rattle.store_commands.specs.Answering.{reply_deleted, reply_found, reply_of}
@@ -29,16 +34,20 @@ use Rattle.store_commands.specs.Reasons.{IsFoundIn}
 use Rattle.store_commands.proofs.Testing.{error_then, on_done, passed, test_of}
 use Rattle.store_pages.proofs.Results.{ok_then}
 use Rattle.cluster_core.specs.Answers.{reply_flushed}
-use Rattle.cluster_core.specs.Records.{is_refusal, key_of, says_done}
+use Rattle.cluster_core.specs.Records.{AreAllThere, is_refusal, key_of, says_done, takes_pages}
 use Rattle.cluster_core.proofs.Answered.{known_leaves, known_not_done, known_plain, log_down, plain_cause, plain_runs, refusal_runs, start_told, state_plain, state_told, stop_no_refusal, stop_runs, stop_told, stops_down}
 use Rattle.cluster_core.proofs.KnownRefusals.{behind_known, known_refused, told_node}
 use Rattle.cluster_core.proofs.Passing.{begin_known, idle_known, lock_known, node_known, txn_known, up_known}
 use Rattle.cluster_core.proofs.Results.{both_then, deleted_or, done_only, done_runs, fault_not_done, fine_or, flushed_count, flushed_or, found_or, of_deleted, of_done, of_flushed, of_found, reason_not_done}
 use Rattle.cluster_core.proofs.Saying.{work_same, works_says, writes_narrow}
-use Rattle.cluster_core.proofs.Steps.{all_ok, answered_step, back_step, deleted_is, deleted_plain, done_call, done_step, found_step, is_plain, refused_step, taken_step, where_runs}
+use Rattle.cluster_core.proofs.Steps.{all_ok, answered_step, back_step, deleted_is, deleted_plain, done_call, done_step, found_step, is_plain, led_call, refused_step, taken_step, where_runs}
 use Rattle.cluster_core.proofs.Tests.{first_one}
 use Rattle.cluster_core.proofs.WhenMet.{known_stays, late_deletion, late_length, late_write}
 use Rattle.cluster_core.proofs.executing.execute.Goals as goal
+
+-- where no page is lost, a store that endures shows the machine's state
+shown_there : (c : Store) (b : ℕ → BlockState) (m : Machine) → m.reopening ≡ false → AreAllThere m → Endures c b m → IsShown c b m
+shown_there c b m whole there was = endures_shown c b m whole (λ x within. there x (subst (λ s. x < page_count s) (sym was.1.nodes.shape) within)) was
 
 pub returns-in-Start-clause-works : goal.returns-in-Start-clause-works
 returns-in-Start-clause-works g c = rw (c.in-Start.is, c.reply_of.ensures) (works_with c.in-Start.n.0 (λ h. IsStopReply h (reply_of c.start.result)) c.args.store.now c.start.new.self (g.D.Disk.state c.args.disk.now) (g.D.Disk.state c.start.new.disk) (g.V.Disk.state c.args.vault.now) (g.V.Disk.state c.start.new.vault) c.start.ensures.works)
@@ -84,6 +93,15 @@ returns-in-Start-clause-step g c = λ told runs m shown.
     let goes : says_stop (reply_of c.start.result) ≡ false = subst (λ k. says_stop k ≡ false) c.reply_of.ensures runs in
     rw (c.in-Start.is, c.reply_of.ensures) (done_call m (asks.Start c.in-Start.n) reply_of c.start.result S (λ why. refl) left (error_then c.start.result (λ why. IsTrue g.D.Disk.told → (m : Machine) → IsShown c.args.store.now a m → says_stop why ≡ true) (λ why. says_stop why ≡ true) c.start.ensures.stopped (λ why stops. stops told m was)) goes (all_ok c.start.result (λ value. is_plain says.Fine ≡ true) (λ value. refl)) (all_ok c.start.result (λ value. MayAnswer m (asks.Start c.in-Start.n) says.Fine) (λ value. refl)) (on_done c.start.result c.start.ensures.shows (λ shows. shows told m was)))
 
+pub returns-in-Start-clause-led : goal.returns-in-Start-clause-led
+returns-in-Start-clause-led g c = λ told alone m whole there was.
+    let a = (g.D.Disk.state c.args.disk.now).block in
+    let S : Machine → Type 0 = Endures c.start.new.self (g.D.Disk.state c.start.new.disk).block in
+    let shown : IsShown c.args.store.now a m = shown_there c.args.store.now a m whole there was in
+    let is : IsStore c.args.store.now = c.requires.ready.is in
+    let left = behind_known c.args.store.now a shown.0 m is shown.1 (asks.Start c.in-Start.n) (subst InRange c.in-Start.is c.requires.range) (subst (λ k. known c.args.store.now k ≡ None) c.in-Start.is (passed (known c.args.store.now c.args.command.now) (sym c.check.ensures ∙ c.in_default.is))) in
+    rw (c.in-Start.is, c.reply_of.ensures) (led_call c.in-Start.n.0 m (asks.Start c.in-Start.n) reply_of c.start.result S (λ why. refl) refl left (all_ok c.start.result (λ value. is_plain says.Fine ≡ true) (λ value. refl)) (all_ok c.start.result (λ value. MayAnswer m (asks.Start c.in-Start.n) says.Fine) (λ value. refl)) (c.start.ensures.led told m was))
+
 pub returns-in-Begin-clause-works : goal.returns-in-Begin-clause-works
 returns-in-Begin-clause-works g c = rw (c.in-Begin.is, c.reply_of-in-Begin.ensures) (works_with c.in-Begin.t.node.0 (λ h. IsStopReply h (reply_of c.begin.result)) c.args.store.now c.begin.new.self (g.D.Disk.state c.args.disk.now) (g.D.Disk.state c.begin.new.disk) (g.V.Disk.state c.args.vault.now) (g.V.Disk.state c.begin.new.vault) c.begin.ensures.works)
 
@@ -120,6 +138,15 @@ returns-in-Begin-clause-step g c = λ told runs m shown.
     let left = behind_known c.args.store.now a was.0 m is was.1 (asks.Begin c.in-Begin.t) (subst InRange c.in-Begin.is c.requires.range) (subst (λ k. known c.args.store.now k ≡ None) c.in-Begin.is (passed (known c.args.store.now c.args.command.now) (sym c.check.ensures ∙ c.in_default.is))) in
     let goes : says_stop (reply_of c.begin.result) ≡ false = subst (λ k. says_stop k ≡ false) c.reply_of-in-Begin.ensures runs in
     rw (c.in-Begin.is, c.reply_of-in-Begin.ensures) (done_call m (asks.Begin c.in-Begin.t) reply_of c.begin.result S (λ why. refl) left (error_then c.begin.result (IsStopReply c.in-Begin.t.node.0) (λ why. says_stop why ≡ true) c.begin.ensures.stopped (stop_runs c.in-Begin.t.node.0)) goes (all_ok c.begin.result (λ value. is_plain says.Fine ≡ true) (λ value. refl)) (all_ok c.begin.result (λ value. MayAnswer m (asks.Begin c.in-Begin.t) says.Fine) (λ value. refl)) (on_done c.begin.result c.begin.ensures.shows (λ shows. shows told m was)))
+
+pub returns-in-Begin-clause-led : goal.returns-in-Begin-clause-led
+returns-in-Begin-clause-led g c = λ told alone m whole there was.
+    let a = (g.D.Disk.state c.args.disk.now).block in
+    let S : Machine → Type 0 = Endures c.begin.new.self (g.D.Disk.state c.begin.new.disk).block in
+    let shown : IsShown c.args.store.now a m = shown_there c.args.store.now a m whole there was in
+    let is : IsStore c.args.store.now = c.requires.ready.is in
+    let left = behind_known c.args.store.now a shown.0 m is shown.1 (asks.Begin c.in-Begin.t) (subst InRange c.in-Begin.is c.requires.range) (subst (λ k. known c.args.store.now k ≡ None) c.in-Begin.is (passed (known c.args.store.now c.args.command.now) (sym c.check.ensures ∙ c.in_default.is))) in
+    rw (c.in-Begin.is, c.reply_of-in-Begin.ensures) (led_call c.in-Begin.t.node.0 m (asks.Begin c.in-Begin.t) reply_of c.begin.result S (λ why. refl) refl left (all_ok c.begin.result (λ value. is_plain says.Fine ≡ true) (λ value. refl)) (all_ok c.begin.result (λ value. MayAnswer m (asks.Begin c.in-Begin.t) says.Fine) (λ value. refl)) (c.begin.ensures.led told m whole was))
 
 pub returns-in-Get-clause-works : goal.returns-in-Get-clause-works
 returns-in-Get-clause-works g c = rw (c.in-Get.is, c.reply_found.ensures) (works_says c.in-Get.t.node.0 reply_found c.get.result c.args.store.now c.get.new.store (g.D.Disk.state c.args.disk.now) (g.D.Disk.state c.get.new.disk) (g.V.Disk.state c.args.vault.now) (g.V.Disk.state c.get.new.vault) (λ why. refl) c.get.ensures.works)
@@ -159,6 +186,9 @@ returns-in-Get-clause-step g c = λ told runs m shown.
     rw (c.in-Get.is, c.reply_found.ensures) (taken_step _ m (asks.Get c.in-Get.t c.in-Get.key) [] reply_found c.get.result S (λ why. refl) refl left (where_runs reply_found c.get.result (λ why. refl) (c.get.ensures.step told m was) goes)
     (λ none done. found_step m c.in-Get.t c.in-Get.key c.get.result S none done.0 (on_done c.get.result c.get.ensures.answer (λ says. says told m was)) done.1))
 
+pub returns-in-Get-clause-led : goal.returns-in-Get-clause-led
+returns-in-Get-clause-led g c = λ told alone. (let never : true ≡ false = sym (ap takes_pages c.in-Get.is) ∙ alone in absurd cc)
+
 pub returns-in-Put-clause-works : goal.returns-in-Put-clause-works
 returns-in-Put-clause-works g c = rw (c.in-Put.is, c.reply_of-in-Put.ensures) (works_says c.in-Put.t.node.0 reply_of c.write_record.result c.args.store.now c.write_record.new.store (g.D.Disk.state c.args.disk.now) (g.D.Disk.state c.write_record.new.disk) (g.V.Disk.state c.args.vault.now) (g.V.Disk.state c.write_record.new.vault) (λ why. refl) c.write_record.ensures.works)
 
@@ -196,6 +226,9 @@ returns-in-Put-clause-step g c = λ told runs m shown.
     let goes : says_stop (reply_of c.write_record.result) ≡ false = subst (λ k. says_stop k ≡ false) c.reply_of-in-Put.ensures runs in
     rw (c.in-Put.is, c.reply_of-in-Put.ensures) (taken_step _ m (asks.Put c.in-Put.t c.in-Put.key c.in-Put.value) ((no_page m c.in-Put.t.node c.in-Put.key.0 None) ∷ []) reply_of c.write_record.result S (λ why. refl) refl left (where_runs reply_of c.write_record.result (λ why. refl) (c.write_record.ensures.step told m was) goes)
     (λ behind done. answered_step m (asks.Put c.in-Put.t c.in-Put.key c.in-Put.value) tt reply_of (no_page m c.in-Put.t.node c.in-Put.key.0 None) c.write_record.result S (λ why. refl) (λ why refused. late_write (asks.Put c.in-Put.t c.in-Put.key c.in-Put.value) m c.in-Put.t.node c.in-Put.key.0 None why tt refused) refl refl behind done))
+
+pub returns-in-Put-clause-led : goal.returns-in-Put-clause-led
+returns-in-Put-clause-led g c = λ told alone. (let never : true ≡ false = sym (ap takes_pages c.in-Put.is) ∙ alone in absurd cc)
 
 pub returns-in-Append-clause-works : goal.returns-in-Append-clause-works
 returns-in-Append-clause-works g c = rw (c.in-Append.is, c.reply_of-in-Append.ensures) (works_says c.in-Append.t.node.0 reply_of c.write_record-in-Append.result c.args.store.now c.write_record-in-Append.new.store (g.D.Disk.state c.args.disk.now) (g.D.Disk.state c.write_record-in-Append.new.disk) (g.V.Disk.state c.args.vault.now) (g.V.Disk.state c.write_record-in-Append.new.vault) (λ why. refl) c.write_record-in-Append.ensures.works)
@@ -235,6 +268,9 @@ returns-in-Append-clause-step g c = λ told runs m shown.
     rw (c.in-Append.is, c.reply_of-in-Append.ensures) (taken_step _ m (asks.Append c.in-Append.t c.in-Append.key c.in-Append.bytes) ((no_page m c.in-Append.t.node c.in-Append.key.0 (too_long (seen m c.in-Append.t c.in-Append.key.0) c.in-Append.bytes)) ∷ []) reply_of c.write_record-in-Append.result S (λ why. refl) refl left (where_runs reply_of c.write_record-in-Append.result (λ why. refl) (c.write_record-in-Append.ensures.step told m was) goes)
     (λ behind done. answered_step m (asks.Append c.in-Append.t c.in-Append.key c.in-Append.bytes) tt reply_of (no_page m c.in-Append.t.node c.in-Append.key.0 (too_long (seen m c.in-Append.t c.in-Append.key.0) c.in-Append.bytes)) c.write_record-in-Append.result S (λ why. refl) (λ why refused. late_write (asks.Append c.in-Append.t c.in-Append.key c.in-Append.bytes) m c.in-Append.t.node c.in-Append.key.0 (too_long (seen m c.in-Append.t c.in-Append.key.0) c.in-Append.bytes) why (late_length (asks.Append c.in-Append.t c.in-Append.key c.in-Append.bytes) (seen m c.in-Append.t c.in-Append.key.0) c.in-Append.bytes) refused) refl refl behind done))
 
+pub returns-in-Append-clause-led : goal.returns-in-Append-clause-led
+returns-in-Append-clause-led g c = λ told alone. (let never : true ≡ false = sym (ap takes_pages c.in-Append.is) ∙ alone in absurd cc)
+
 pub returns-in-Del-clause-works : goal.returns-in-Del-clause-works
 returns-in-Del-clause-works g c = rw (c.in-Del.is, c.reply_deleted.ensures) (works_says c.in-Del.t.node.0 reply_deleted c.delete.result c.args.store.now c.delete.new.store (g.D.Disk.state c.args.disk.now) (g.D.Disk.state c.delete.new.disk) (g.V.Disk.state c.args.vault.now) (g.V.Disk.state c.delete.new.vault) (λ why. refl) c.delete.ensures.works)
 
@@ -273,6 +309,9 @@ returns-in-Del-clause-step g c = λ told runs m shown.
     rw (c.in-Del.is, c.reply_deleted.ensures) (taken_step _ m (asks.Del c.in-Del.t c.in-Del.key) ((no_deletion m c.in-Del.t c.in-Del.key.0) ∷ []) reply_deleted c.delete.result S (λ why. refl) refl left (where_runs reply_deleted c.delete.result (λ why. refl) (c.delete.ensures.step told m was) goes)
     (λ behind done. answered_step m (asks.Del c.in-Del.t c.in-Del.key) (is_some (seen m c.in-Del.t c.in-Del.key.0)) reply_deleted (no_deletion m c.in-Del.t c.in-Del.key.0) c.delete.result S (λ why. refl) (λ why refused. late_deletion (asks.Del c.in-Del.t c.in-Del.key) m c.in-Del.t c.in-Del.key.0 why refused) (deleted_plain (seen m c.in-Del.t c.in-Del.key.0)) (deleted_is (seen m c.in-Del.t c.in-Del.key.0)) behind done))
 
+pub returns-in-Del-clause-led : goal.returns-in-Del-clause-led
+returns-in-Del-clause-led g c = λ told alone. (let never : true ≡ false = sym (ap takes_pages c.in-Del.is) ∙ alone in absurd cc)
+
 pub returns-in-Commit-clause-works : goal.returns-in-Commit-clause-works
 returns-in-Commit-clause-works g c = rw (c.in-Commit.is, c.reply_of-in-Commit.ensures) (works_with c.in-Commit.t.node.0 (λ h. IsStopReply h (reply_of c.end.result)) c.args.store.now c.end.new.self (g.D.Disk.state c.args.disk.now) (g.D.Disk.state c.end.new.disk) (g.V.Disk.state c.args.vault.now) (g.V.Disk.state c.end.new.vault) c.end.ensures.works)
 
@@ -309,6 +348,15 @@ returns-in-Commit-clause-step g c = λ told runs m shown.
     let left = behind_known c.args.store.now a was.0 m is was.1 (asks.Commit c.in-Commit.t) (subst InRange c.in-Commit.is c.requires.range) (subst (λ k. known c.args.store.now k ≡ None) c.in-Commit.is (passed (known c.args.store.now c.args.command.now) (sym c.check.ensures ∙ c.in_default.is))) in
     let goes : says_stop (reply_of c.end.result) ≡ false = subst (λ k. says_stop k ≡ false) c.reply_of-in-Commit.ensures runs in
     rw (c.in-Commit.is, c.reply_of-in-Commit.ensures) (done_call m (asks.Commit c.in-Commit.t) reply_of c.end.result S (λ why. refl) left (error_then c.end.result (IsStopReply c.in-Commit.t.node.0) (λ why. says_stop why ≡ true) c.end.ensures.stopped (stop_runs c.in-Commit.t.node.0)) goes (all_ok c.end.result (λ value. is_plain says.Fine ≡ true) (λ value. refl)) (all_ok c.end.result (λ value. MayAnswer m (asks.Commit c.in-Commit.t) says.Fine) (λ value. refl)) (on_done c.end.result c.end.ensures.shows (λ shows. shows told m was)))
+
+pub returns-in-Commit-clause-led : goal.returns-in-Commit-clause-led
+returns-in-Commit-clause-led g c = λ told alone m whole there was.
+    let a = (g.D.Disk.state c.args.disk.now).block in
+    let S : Machine → Type 0 = Endures c.end.new.self (g.D.Disk.state c.end.new.disk).block in
+    let shown : IsShown c.args.store.now a m = shown_there c.args.store.now a m whole there was in
+    let is : IsStore c.args.store.now = c.requires.ready.is in
+    let left = behind_known c.args.store.now a shown.0 m is shown.1 (asks.Commit c.in-Commit.t) (subst InRange c.in-Commit.is c.requires.range) (subst (λ k. known c.args.store.now k ≡ None) c.in-Commit.is (passed (known c.args.store.now c.args.command.now) (sym c.check.ensures ∙ c.in_default.is))) in
+    rw (c.in-Commit.is, c.reply_of-in-Commit.ensures) (led_call c.in-Commit.t.node.0 m (asks.Commit c.in-Commit.t) reply_of c.end.result S (λ why. refl) refl left (all_ok c.end.result (λ value. is_plain says.Fine ≡ true) (λ value. refl)) (all_ok c.end.result (λ value. MayAnswer m (asks.Commit c.in-Commit.t) says.Fine) (λ value. refl)) (c.end.ensures.led told m whole was))
 
 pub returns-in-Abort-clause-works : goal.returns-in-Abort-clause-works
 returns-in-Abort-clause-works g c = rw (c.in-Abort.is, c.reply_of-in-Abort.ensures) (works_says c.in-Abort.t.node.0 reply_of c.abort.result c.args.store.now c.abort.new.store (g.D.Disk.state c.args.disk.now) (g.D.Disk.state c.abort.new.disk) (g.V.Disk.state c.args.vault.now) (g.V.Disk.state c.abort.new.vault) (λ why. refl) c.abort.ensures.works)
@@ -347,6 +395,9 @@ returns-in-Abort-clause-step g c = λ told runs m shown.
     let goes : says_stop (reply_of c.abort.result) ≡ false = subst (λ k. says_stop k ≡ false) c.reply_of-in-Abort.ensures runs in
     rw (c.in-Abort.is, c.reply_of-in-Abort.ensures) (back_step m c.in-Abort.t c.abort.result S left (where_runs reply_of c.abort.result (λ why. refl) (c.abort.ensures.step told m was) goes))
 
+pub returns-in-Abort-clause-led : goal.returns-in-Abort-clause-led
+returns-in-Abort-clause-led g c = λ told alone. (let never : true ≡ false = sym (ap takes_pages c.in-Abort.is) ∙ alone in absurd cc)
+
 pub returns-in-Flush-clause-works : goal.returns-in-Flush-clause-works
 returns-in-Flush-clause-works g c = rw (c.in-Flush.is, c.reply_flushed.ensures) (works_with c.in-Flush.n.0 (λ h. IsStopReply h (reply_flushed c.flush.result)) c.args.store.now c.flush.new.store (g.D.Disk.state c.args.disk.now) (g.D.Disk.state c.flush.new.disk) (g.V.Disk.state c.args.vault.now) (g.V.Disk.state c.flush.new.vault) c.flush.ensures.works)
 
@@ -383,6 +434,15 @@ returns-in-Flush-clause-step g c = λ told runs m shown.
     let left = behind_known c.args.store.now a was.0 m is was.1 (asks.Flush c.in-Flush.n) (subst InRange c.in-Flush.is c.requires.range) (subst (λ k. known c.args.store.now k ≡ None) c.in-Flush.is (passed (known c.args.store.now c.args.command.now) (sym c.check.ensures ∙ c.in_default.is))) in
     let goes : says_stop (reply_flushed c.flush.result) ≡ false = subst (λ k. says_stop k ≡ false) c.reply_flushed.ensures runs in
     rw (c.in-Flush.is, c.reply_flushed.ensures) (done_call m (asks.Flush c.in-Flush.n) reply_flushed c.flush.result S (λ why. refl) left (error_then c.flush.result (IsStopReply c.in-Flush.n.0) (λ why. says_stop why ≡ true) c.flush.ensures.stopped (stop_runs c.in-Flush.n.0)) goes (all_ok c.flush.result (λ count. is_plain (says.Flushed count) ≡ true) (λ count. refl)) (ok_then c.flush.result (λ count. count ≤ 16) (λ count. MayAnswer m (asks.Flush c.in-Flush.n) (says.Flushed count)) c.flush.ensures.few (λ count few. (count, few, refl))) (on_done c.flush.result c.flush.ensures.shows (λ shows. shows told m was)))
+
+pub returns-in-Flush-clause-led : goal.returns-in-Flush-clause-led
+returns-in-Flush-clause-led g c = λ told alone m whole there was.
+    let a = (g.D.Disk.state c.args.disk.now).block in
+    let S : Machine → Type 0 = Endures c.flush.new.store (g.D.Disk.state c.flush.new.disk).block in
+    let shown : IsShown c.args.store.now a m = shown_there c.args.store.now a m whole there was in
+    let is : IsStore c.args.store.now = c.requires.ready.is in
+    let left = behind_known c.args.store.now a shown.0 m is shown.1 (asks.Flush c.in-Flush.n) (subst InRange c.in-Flush.is c.requires.range) (subst (λ k. known c.args.store.now k ≡ None) c.in-Flush.is (passed (known c.args.store.now c.args.command.now) (sym c.check.ensures ∙ c.in_default.is))) in
+    rw (c.in-Flush.is, c.reply_flushed.ensures) (led_call c.in-Flush.n.0 m (asks.Flush c.in-Flush.n) reply_flushed c.flush.result S (λ why. refl) refl left (all_ok c.flush.result (λ count. is_plain (says.Flushed count) ≡ true) (λ count. refl)) (ok_then c.flush.result (λ count. count ≤ 16) (λ count. MayAnswer m (asks.Flush c.in-Flush.n) (says.Flushed count)) c.flush.ensures.few (λ count few. (count, few, refl))) (c.flush.ensures.led told m was))
 
 -- ---- refused for what is in memory
 
@@ -445,6 +505,15 @@ returns-in-Err-clause-step g c = λ told runs m shown.
     let is = test_of (known now c.args.command.now) c.check.result c.in-Err.why c.check.ensures c.in-Err.is in
     refused_step m c.args.command.now c.in-Err.why (IsShown now a) (known_plain now c.args.command.now c.in-Err.why is) (known_refused now a was.0 m whole was.1 c.args.command.now c.in-Err.why c.requires.range is) (known_stays now m c.args.command.now c.in-Err.why (IsShown now a) is was)
 
+pub returns-in-Err-clause-led : goal.returns-in-Err-clause-led
+returns-in-Err-clause-led g c = λ told alone m whole there was.
+    let now = c.args.store.now in
+    let a = (g.D.Disk.state c.args.disk.now).block in
+    let shown : IsShown now a m = shown_there now a m whole there was in
+    let is_store : IsStore now = c.requires.ready.is in
+    let is = test_of (known now c.args.command.now) c.check.result c.in-Err.why c.check.ensures c.in-Err.is in
+    refused_step m c.args.command.now c.in-Err.why (Endures now a) (known_plain now c.args.command.now c.in-Err.why is) (known_refused now a shown.0 m is_store shown.1 c.args.command.now c.in-Err.why c.requires.range is) (known_stays now m c.args.command.now c.in-Err.why (Endures now a) is was)
+
 -- ---- a node's state
 
 pub returns-in-Stat-clause-works : goal.returns-in-Stat-clause-works
@@ -488,6 +557,19 @@ returns-in-Stat-clause-step g c = λ told runs m shown.
     let there = (node_known now whole n [] range (first_one (no_node now n) ∙ so)).0 in
     rw (c.in-Stat.is, c.stat.ensures)
     (done_step m (asks.Stat n) (state_of (node_at now.nodes n.0)) (IsShown now a) (state_plain (node_at now.nodes n.0)) (behind_known now a was.0 m whole was.1 (asks.Stat n) range so) (told_node now a was.0 m whole was.1 n there.place there.last) was)
+
+pub returns-in-Stat-clause-led : goal.returns-in-Stat-clause-led
+returns-in-Stat-clause-led g c = λ told alone m whole there was.
+    let now = c.args.store.now in
+    let a = (g.D.Disk.state c.args.disk.now).block in
+    let shown : IsShown now a m = shown_there now a m whole there was in
+    let is_store : IsStore now = c.requires.ready.is in
+    let n = c.in-Stat.n in
+    let range : InRange (asks.Stat n) = subst InRange c.in-Stat.is c.requires.range in
+    let so : known now (asks.Stat n) ≡ None = subst (λ k. known now k ≡ None) c.in-Stat.is (passed (known now c.args.command.now) (sym c.check.ensures ∙ c.in_default.is)) in
+    let node = (node_known now is_store n [] range (first_one (no_node now n) ∙ so)).0 in
+    rw (c.in-Stat.is, c.stat.ensures)
+    (done_step m (asks.Stat n) (state_of (node_at now.nodes n.0)) (Endures now a) (state_plain (node_at now.nodes n.0)) (behind_known now a shown.0 m is_store shown.1 (asks.Stat n) range so) (told_node now a shown.0 m is_store shown.1 n node.place node.last) was)
 
 -- ---- what a commit leaves of the blocks
 

@@ -65,3 +65,6 @@ execute-requires-clause-quiet g c = rw c.self.view_is c.requires.quiet
 
 pub returns-clause-room : goal.returns-clause-room
 returns-clause-room g c = rw (← c.self.view_is) c.execute.ensures.room
+
+pub returns-clause-led : goal.returns-clause-led
+returns-clause-led g c = rw (← c.self.view_is) c.execute.ensures.led
