@@ -1,9 +1,11 @@
 -- A store endures a call of a node that only reads: where the node's port stops in it, it may halt.
-use Rattle.std.specs.Prelude.{◌≡◌, ◌-◌, ℕ, Bool, true, false, nat_le, All, List, if◌then◌else◌, map, refl}
-use Rattle.std.proofs.Common.{inl, subst, sym}
+use Rattle.std.specs.Prelude.{◌≡◌, ◌-◌, ◌∷◌, [], ℕ, Bool, true, false, not, nat_le, All, List, Option, Some, None, Err, if◌then◌else◌, map, refl}
+use Rattle.std.proofs.Common.{inl, ap, subst, sym, ◌∙◌}
 use Rattle.sd_base.specs.Disk.{BlockState}
 use Rattle.sd_base.specs.Calls.{KeepsForeign, Narrows}
 use Rattle.sd_base.specs.Faults.{IsStopOf, OnStop}
+use Rattle.sd_base.specs.Places.{map_of_data}
+use Rattle.sd_base.specs.declared.device.NodeId.{NodeId}
 use Rattle.sd_base.specs.declared.fault.DevFault.{DevFault}
 use Rattle.sd_base.specs.declared.fault.DevFault.TheVariants.{Stopped, Failed, Lost, Damaged}
 use Rattle.sd_base.specs.declared.names.PageNo.{PageNo}
@@ -15,12 +17,16 @@ use Rattle.private_log.specs.Content.{Region}
 use Rattle.private_log.specs.Log.{region}
 use Rattle.private_log.specs.Reading.{IsLogFault}
 use Rattle.private_log.specs.Spread.{IsCutLog, IsStill}
+use Rattle.page_owner.specs.declared.owners.Own.{Own}
+use Rattle.page_owner.specs.declared.owners.Own.TheVariants.{Nobody, Out, Parked}
+use Rattle.page_owner.specs.Owners.{owner_of}
 use Rattle.state_ids.specs.Blocks.{IsPageFault}
 use Rattle.node_cache.specs.Cache.{CacheState}
 use Rattle.txn_core.specs.Seats.{SeatsState}
 use Rattle.txn_core.specs.Told.{HasRecords}
 use Rattle.script_text.specs.declared.reply.Reply.{Reply}
 use Rattle.script_text.specs.declared.reply.Reply.TheVariants as says
+use Rattle.record_machine.specs.Commands.{first_of, where_so}
 use Rattle.record_machine.specs.Led.{Broke, LedOnStop}
 use Rattle.record_machine.specs.Machine.{Machine}
 use Rattle.record_machine.specs.Meaning.{Plain}
@@ -28,10 +34,12 @@ use Rattle.record_machine.specs.Parts.{Part}
 use Rattle.store_nodes.specs.declared.node.Node.TheVariants.{Up}
 use Rattle.store_nodes.specs.declared.store.Store.{Store}
 use Rattle.store_nodes.specs.Endures.{EnduresAs, MayHaltAs, with_held}
-use Rattle.store_nodes.specs.Nodes.{IsPlace, IsStore, node_at, with_node}
+use Rattle.store_nodes.specs.Known.{checked, held_by, held_in}
+use Rattle.store_nodes.specs.Nodes.{IsPlace, IsStore, is_up, node_at, with_node}
 use Rattle.store_nodes.specs.Ports.{IsQuiet, reply_to}
 use Rattle.store_nodes.specs.Shows.{ShowsNode}
 use Rattle.store_nodes.specs.Tied.{TiesNode, TiesUp}
+use Rattle.store_pages.specs.Holders.{held_both}
 use Rattle.store_pages.specs.Updates.{IsLogBlock}
 use Rattle.store_nodes.proofs.LoggedEndures.{logged_halts}
 use Rattle.store_nodes.proofs.Logs as logs
@@ -67,6 +75,27 @@ led_on_stop n first (Damaged at) ps m S is broke = tt
 pub block_led : (n : ℕ) (g : Region) (why : Reply) (ps : List Part) (m : Machine) (S : Machine → Type 0) → IsLogBlock g why → LedOnStop n why ps m S
 block_led n g (says.DamagedDisk at) ps m S is = tt
 block_led n g why ps m S is = absurd is
+
+-- nor is a page that a node has which is down
+held_led : (me : Store) (y : PageNo) (why : Reply) (n : ℕ) (ps : List Part) (m : Machine) (S : Machine → Type 0) → held_in me y ≡ Some why → LedOnStop n why ps m S
+held_led me y why n ps m S held = by (owner_of me.shared.owners y.0) held
+  where
+    test : (h : NodeId) (b : Bool) → where_so b (says.Held y h) ≡ Some why → LedOnStop n why ps m S
+    test h true is = let same : says.Held y h ≡ why = cc in subst (λ k. LedOnStop n k ps m S) same tt
+    test h false is = cc
+
+    by : (own : Own) → held_by me y own ≡ Some why → LedOnStop n why ps m S
+    by Nobody is = cc
+    by (Parked h) is = test h (not (is_up (node_at me.nodes h.0))) is
+    by (Out h) is = test h (not (is_up (node_at me.nodes h.0))) is
+
+pub both_led : (me : Store) (x : PageNo) (why : Reply) (n : ℕ) (ps : List Part) (m : Machine) (S : Machine → Type 0) → checked (held_both me x) ≡ Err why → LedOnStop n why ps m S
+both_led me x why n ps m S fails = by (held_in me (map_of_data me.shape x)) (held_in me x) refl refl fails
+  where
+    by : (o p : Option Reply) → held_in me (map_of_data me.shape x) ≡ o → held_in me x ≡ p → checked (first_of (o ∷ p ∷ [])) ≡ Err why → LedOnStop n why ps m S
+    by (Some k) p map page is = let same : k ≡ why = cc in held_led me (map_of_data me.shape x) why n ps m S (map ∙ ap Some same)
+    by None (Some k) map page is = let same : k ≡ why = cc in held_led me x why n ps m S (page ∙ ap Some same)
+    by None None map page is = cc
 
 -- ---- what it leaves
 

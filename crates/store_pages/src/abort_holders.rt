@@ -1,13 +1,15 @@
 //! For an abort: whether a node that is down has a page of the updates that it is to take back.
 
-ghost use Rattle.std.specs.Prelude.{◌≡◌, ◌<◌, ◌≤◌, true, false, IsTrue, IfErr, OnOk};
+ghost use Rattle.std.specs.Prelude.{◌≡◌, ◌<◌, ◌≤◌, [], true, false, IsTrue, IfErr, OnOk};
 ghost use Rattle.sd_base.specs.Calls.{Narrows};
 ghost use Rattle.sd_base.specs.Shape.{page_count};
 ghost use Rattle.record_machine.specs.Commands.{takes_back};
+ghost use Rattle.record_machine.specs.Led.{LedOnStop};
 ghost use Rattle.record_machine.specs.Machine.{Machine};
 ghost use Rattle.record_machine.specs.Steps.{held};
 ghost use Rattle.txn_core.specs.Seats.{is_busy};
 ghost use Rattle.store_nodes.specs.declared.node.Node.TheVariants.{Down};
+ghost use Rattle.store_nodes.specs.Endures.{Endures};
 ghost use Rattle.store_nodes.specs.Known.{checked, held_in};
 ghost use Rattle.store_nodes.specs.Nodes.{IsPlace, IsStore, OnUp, is_up, node_at};
 ghost use Rattle.store_nodes.specs.Ports.{HasCause, IsQuiet, IsReady, UnlessStop, Works, Writes, says_stop};
@@ -72,6 +74,7 @@ pub fn test_holders<D: Disk, V: Disk>(
     ensures kept { IfErr result (λ why. says_stop why ≡ false → (store.new ≡ store.old) × (IsTrue D.told → (D.state disk.new).block ≡ (D.state disk.old).block)) }
     ensures same { OnOk result ((store.new ≡ store.old) × (IsTrue D.told → (D.state disk.new).block ≡ (D.state disk.old).block)) }
     ensures tests { IsTrue D.told → TestsHolders store.old (D.state disk.old).block t result }
+    ensures led { IfErr result (λ why. IsTrue D.told → (m : Machine) → Endures store.old (D.state disk.old).block m → LedOnStop t.node.0 why [] m (Endures store.new (D.state disk.new).block)) }
     ensures shown { IsTrue D.told → (m : Machine) → IsShown store.old (D.state disk.old).block m → UnlessStop result (result ≡ checked (held m (takes_back m t))) }
 {
     let mut after = None;

@@ -1,11 +1,14 @@
-use Rattle.std.specs.Prelude.{◌≡◌, ◌*◌, ◌<◌, ◌≤◌, List, None, Some, Ok, Err, IfSome, IfErr, refl}
+use Rattle.std.specs.Prelude.{◌≡◌, ◌*◌, ◌<◌, ◌≤◌, [], IsTrue, List, None, Some, Ok, Err, IfSome, IfErr, refl}
 use Rattle.std.proofs.Common.{subst, sym, ◌∙◌}
 use Rattle.sd_base.specs.Shape.{page_count}
 use Rattle.private_log.specs.Content.{region_of}
 use Rattle.log_record.specs.declared.record.LogRecord.{LogRecord}
 use Rattle.txn_core.specs.Seats.{OpenTxn, txn_in}
 use Rattle.txn_core.specs.Told.{AreTold, HasRecords}
+use Rattle.record_machine.specs.Led.{LedOnStop}
+use Rattle.record_machine.specs.Machine.{Machine}
 use Rattle.store_nodes.specs.declared.store.Store.{Store}
+use Rattle.store_nodes.specs.Endures.{Endures}
 use Rattle.store_nodes.specs.Known.{checked}
 use Rattle.store_nodes.specs.Nodes.{OnUp, node_at}
 use Rattle.store_nodes.specs.Ports.{IsQuiet}
@@ -13,6 +16,7 @@ use Rattle.store_nodes.specs.Shows.{IsShown}
 use Rattle.store_pages.specs.Holders.{IsHolderReply, held_both, held_left}
 use Rattle.store_pages.specs.Updates.{IsNumberOf, IsWithin}
 use Rattle.store_pages.proofs.Holders.{Passed, all_passed, both_say, error_is, held_first, holds_always, passed_on, stopped_first, tested_always}
+use Rattle.store_pages.proofs.ReadEndures.{both_led}
 use Rattle.store_pages.proofs.Sequences.{works_then}
 use Rattle.store_pages.proofs.ShownHolders.{left_shown}
 use Rattle.store_pages.proofs.Walks.{Found}
@@ -51,6 +55,14 @@ returns-in_err-number-clause-shown g c = λ told m shown.
     let now = subst (λ k. IsShown k (g.D.Disk.state c.loop-number.disk).block m) (sym c.loop-number.invariant.store) (subst (λ b. IsShown c.args.store.now b m) (sym (c.loop-number.invariant.blocks told)) shown) in
     stopped_first c.args.t.node.0 c.from_residual.result c.in_err-number.field-0.0 _ c.from_residual.ensures.1 (c.in_err-number.ensures.stopped told m now (c.loop-number.invariant.number told m shown))
 
+pub returns-in_err-number-clause-led : goal.returns-in_err-number-clause-led
+returns-in_err-number-clause-led g c =
+    let n = c.args.t.node.0 in
+    let b = (g.D.Disk.state c.update_after.new.disk).block in
+    subst (λ r. IfErr r (λ why. IsTrue g.D.Disk.told → (m : Machine) → Endures c.args.store.now (g.D.Disk.state c.args.disk.now).block m → LedOnStop n why [] m (Endures c.update_after.new.store b))) (sym (error_is c.from_residual.result c.in_err-number.field-0.0 c.from_residual.ensures.1)) (λ told m was.
+    let now = subst (λ k. Endures k (g.D.Disk.state c.loop-number.disk).block m) (sym c.loop-number.invariant.store) (subst (λ a. Endures c.args.store.now a m) (sym (c.loop-number.invariant.blocks told)) was) in
+    c.in_err-number.ensures.led told m now)
+
 -- ---- where a page of one is held
 
 pub returns-in_err-test_both-clause-fault : goal.returns-in_err-test_both-clause-fault
@@ -76,6 +88,14 @@ returns-in_err-test_both-clause-tests g c = λ told.
     let first = held_first me a b c.args.t.seat c.loop-number.after (c.loop-number.invariant.blocks told) (node_at c.loop-number.store.nodes c.args.t.node.0) (c.in-Some.number, c.in-Some.x) why fails (c.loop-number.invariant.passed told) found in
     let left = subst (λ (k : Store). OnUp (node_at k.nodes c.args.t.node.0) (λ d seats. (recs : List LogRecord) (u : OpenTxn) → txn_in seats c.args.t.seat ≡ Some u → HasRecords d.log a recs → AreTold seats d.log.start recs → held_left me u.begin (6 * d.log.start) recs ≡ Some why)) before first in
     tested_always (node_at me.nodes c.args.t.node.0) a c.args.t.seat me c.args.t.node.0 (region_of me.shape c.args.t.node.0) c.from_residual-in_err-test_both.result (Some why) (error_is c.from_residual-in_err-test_both.result why c.from_residual-in_err-test_both.ensures.1) left
+
+pub returns-in_err-test_both-clause-led : goal.returns-in_err-test_both-clause-led
+returns-in_err-test_both-clause-led g c =
+    let n = c.args.t.node.0 in
+    let b = (g.D.Disk.state c.update_after.new.disk).block in
+    let why = c.in_err-test_both.field-0.0 in
+    subst (λ r. IfErr r (λ why. IsTrue g.D.Disk.told → (m : Machine) → Endures c.args.store.now (g.D.Disk.state c.args.disk.now).block m → LedOnStop n why [] m (Endures c.update_after.new.store b))) (sym (error_is c.from_residual-in_err-test_both.result why c.from_residual-in_err-test_both.ensures.1))
+    (λ told m was. both_led c.update_after.new.store c.in-Some.x why n [] m (Endures c.update_after.new.store b) (sym c.test_both.ensures ∙ c.in_err-test_both.was))
 
 pub returns-in_err-test_both-clause-shown : goal.returns-in_err-test_both-clause-shown
 returns-in_err-test_both-clause-shown g c = λ told m shown.
