@@ -40,9 +40,10 @@ pub mod StopSurvives
 pub mod CutSteps
 pub mod LoggedStops
 pub mod StillStops
-pub mod EndStops
 pub mod WholeLogs
 pub mod LostTables
+pub mod LedBehind
+pub mod EndStops
 pub mod FewLoose
 pub mod TakenStops
 pub mod DroppedStops

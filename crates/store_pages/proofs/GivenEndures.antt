@@ -44,7 +44,7 @@ use Rattle.store_pages.proofs.ShownGiven.{clean_given, settled_given, up_given}
 use Rattle.store_pages.proofs.ShownTaken.{settled_clean}
 
 -- a page that is changed is among the pages that are written
-found_changed : (P : CachedPage → Type 0) (x : PageNo) (pages : List CachedPage) → is_some (option_and_then first_change (page_at x pages)) ≡ true → All P (cons_option (page_at x pages) []) → (q : CachedPage) × (q.ticket.page ≡ x) × (q.changes ≢ None) × P q
+pub found_changed : (P : CachedPage → Type 0) (x : PageNo) (pages : List CachedPage) → is_some (option_and_then first_change (page_at x pages)) ≡ true → All P (cons_option (page_at x pages) []) → (q : CachedPage) × (q.ticket.page ≡ x) × (q.changes ≢ None) × P q
 found_changed P x pages more all = by (page_at x pages) refl more all
   where
     some : (q : CachedPage) → is_some (first_change q) ≡ true → q.changes ≢ None

@@ -24,6 +24,7 @@ pub mod PagesWritten
 pub mod PageOutcomes
 pub mod PagedEndures
 pub mod GivenEndures
+pub mod FlushedEndures
 pub mod ShownTaken
 pub mod FetchEndures
 pub mod FetchHalts

@@ -86,6 +86,7 @@ fn write_back<D: Disk, V: Disk>(
     ensures contents { OnOk result (IsTrue D.told → KeepsAllButChanged n.0 store.old (D.state disk.old).block (D.state disk.new).block) }
     ensures holds { OnOk result (IsTrue D.told → HoldsChanged n.0 store.old (D.state disk.new).block) }
     ensures shows { OnOk result (IsTrue D.told → (m : Machine) → IsShown store.old (D.state disk.old).block m → IsShown store.new (D.state disk.new).block m) }
+    ensures led { IsTrue D.told → (m : Machine) → m.reopening ≡ false → Endures store.old (D.state disk.old).block m → Led n.0 result [] m (Endures store.new (D.state disk.new).block) }
 {
     let fault = match &mut store.nodes[place(n)] {
         Node::Up(cache, _seats) => {
@@ -131,6 +132,7 @@ pub fn flush<D: Disk, V: Disk>(
     ensures other_contents { OnOk result (IsTrue D.told → KeepsOthers n.0 store.old (D.state disk.old).block (D.state disk.new).block) }
     ensures holds { OnOk result (IsTrue D.told → HoldsChanged n.0 store.old (D.state disk.new).block) }
     ensures shows { OnOk result (IsTrue D.told → (m : Machine) → IsShown store.old (D.state disk.old).block m → IsShown store.new (D.state disk.new).block (one (Sure n.0) m)) }
+    ensures led { IsTrue D.told → (m : Machine) → m.reopening ≡ false → Endures store.old (D.state disk.old).block m → Led n.0 result (Sure n.0 ∷ []) m (Endures store.new (D.state disk.new).block) }
 {
     force(store, disk, vault, n)?;
     write_back(store, disk, vault, n)

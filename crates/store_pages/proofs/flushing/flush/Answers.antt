@@ -1,4 +1,7 @@
-use Rattle.std.proofs.Common.{ap, ◌∙◌}
+use Rattle.std.proofs.Common.{[], ap, refl, ◌∙◌}
+use Rattle.record_machine.specs.Parts.{Sure, one}
+use Rattle.record_machine.proofs.LedBehind.{led_behind}
+use Rattle.store_nodes.specs.Endures.{Endures}
 use Rattle.store_pages.proofs.FlushedPages.{before_contents, before_changed, before_holds, before_written, others_kept, others_narrowed, ring_to_changed}
 use Rattle.store_pages.proofs.Results.{ok_then, on_done}
 use Rattle.store_pages.proofs.Sequences.{caused_then, works_then, writes_then}
@@ -64,3 +67,8 @@ returns-clause-holds g c = on_done c.write_back.result c.write_back.ensures.hold
 
 pub returns-clause-shows : goal.returns-clause-shows
 returns-clause-shows g c = on_done c.write_back.result c.write_back.ensures.shows (λ shows told m shown. shows told _ (c.in_ok-force.ensures.shows told m shown))
+
+pub returns-clause-led : goal.returns-clause-led
+returns-clause-led g c = λ told m unlost was.
+    led_behind c.args.n.0 (Sure c.args.n.0) [] m (Endures c.write_back.new.store (g.D.Disk.state c.write_back.new.disk).block) refl c.write_back.result
+    (c.write_back.ensures.led told (one (Sure c.args.n.0) m) unlost (c.in_ok-force.ensures.led told m unlost was))
