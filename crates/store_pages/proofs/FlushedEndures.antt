@@ -1,5 +1,5 @@
 -- A store endures that a node writes all pages which it has changed.
-use Rattle.std.specs.Prelude.{◌≡◌, ◌≢◌, ◌⊎◌, ◌-◌, ◌<◌, ℕ, Bool, true, false, List, None, map, refl, slice_index_or}
+use Rattle.std.specs.Prelude.{◌≡◌, ◌≢◌, ◌⊎◌, ◌-◌, ◌<◌, ℕ, Bool, true, false, List, None, map, refl}
 use Rattle.std.proofs.Common.{inl, inr, subst}
 use Rattle.sd_base.specs.Disk.{BlockState, IsLawful}
 use Rattle.sd_base.specs.Calls.{KeepsForeign, Narrows}
@@ -21,13 +21,12 @@ use Rattle.store_nodes.specs.Endures.{EnduresAs, MayHaltAs, with_held}
 use Rattle.store_nodes.specs.Nodes.{IsAtWork, IsPlace, IsStore, node_at, with_node}
 use Rattle.store_nodes.specs.Ports.{IsQuiet}
 use Rattle.store_nodes.specs.Shows.{IsSettled, ShowsNode}
-use Rattle.store_nodes.proofs.HaltedNodes.{cached_there}
 use Rattle.store_nodes.proofs.Logs as logs
 use Rattle.store_nodes.proofs.ShownWith.{nodes_with, settled_before}
 use Rattle.store_pages.proofs.Flushed.{up_kept}
 use Rattle.store_pages.proofs.GivenEndures.{found_changed}
 use Rattle.store_pages.proofs.PageCalls as calls
-use Rattle.store_pages.proofs.PagedEndures.{AreOf, done_tied, done_written, paged_halts}
+use Rattle.store_pages.proofs.PagedEndures.{all_of, done_tied, done_written, paged_halts}
 use Rattle.store_pages.proofs.PagesWritten.{AreWritten, with_disk}
 
 module _ (me : Store) (n i : ℕ) (c d : CacheState) (seats : SeatsState) (is : IsStore me) (place : IsPlace n) (at : i ≡ n - 1) (up : node_at me.nodes n ≡ Up c seats) (b b' : ℕ → BlockState) (p : Plain) (m : Machine) (e : EnduresAs me b p m)
@@ -40,9 +39,6 @@ module _ (me : Store) (n i : ℕ) (c d : CacheState) (seats : SeatsState) (is : 
 
   mine : ShowsNode me.shape me.shared.pool n (Up c seats) b p m1
   mine = subst (λ o. ShowsNode me.shape me.shared.pool n o b p m1) up (e.nodes.node n place (logs.low me n i c d seats seats is place at up))
-
-  of_cache : AreOf c c.pages
-  of_cache k q below = cached_there (slice_index_or c.pages k q).ticket.page c.pages k q below refl
 
   abbrev S : Store
   S = record { shape = me.shape; shared = me.shared; nodes = with_node me.nodes n (Up d seats) }
@@ -62,12 +58,12 @@ module _ (me : Store) (n i : ℕ) (c d : CacheState) (seats : SeatsState) (is : 
     lockers = e.lockers;
     clean = λ unlost x inside settled. clean unlost x inside settled (is_changed x c) refl;
     lost = λ x inside none. e.lost x inside (w.lost x none);
-    tied = done_tied me n i c d seats is place at up c.pages b b' p m e of_cache mine.1.cached work.store.pages narrows foreign quiet w same.start stable;
+    tied = done_tied me n i c d seats is place at up c.pages b b' p m e (all_of c) mine.1.cached work.store.pages narrows foreign quiet w same.start stable;
     survives = w.survives;
   }
     where
       w : AreWritten me.shape e.held e.dirty (whole e.history n) p m b' (λ q. ⊥) c.pages
-      w = done_written me n i c d seats is place at up c.pages b b' p m e of_cache mine.1.cached work.store.pages narrows foreign quiet holds
+      w = done_written me n i c d seats is place at up c.pages b b' p m e (all_of c) mine.1.cached work.store.pages narrows foreign quiet holds
 
       clean : m.reopening ≡ false → (x : PageNo) → x.0 < page_count me.shape → IsSettled (with_node me.nodes n (Up d seats)) me.shared.owners x → (t : Bool) → is_changed x c ≡ t → w.now x.0 ≡ false
       clean unlost x inside settled true more =
@@ -79,4 +75,4 @@ module _ (me : Store) (n i : ℕ) (c d : CacheState) (seats : SeatsState) (is : 
   -- or the node is about to halt, whose port has stopped in it
   pub flushed_halts : (b'' : ℕ → BlockState) → Narrows b' b'' → KeepsForeign n b' b'' → ((k : ℕ) → IsLawful b'' k) → ((x : PageNo) → x.0 < page_count me.shape → (b'' (page_place me.shape x)).writer ≡ None) → IsStill (region c.log) b'
       → IsCutLog (region c.log) c.log.start c.log.stable b' (map record_text (p.live n)) → IsWrittenAhead c.log (map record_text (p.live n)) b b' → MayHaltAs n S b'' p m
-  flushed_halts = paged_halts me n i c d seats is place at up c.pages b b' p m e of_cache mine.1.cached work.store.pages narrows foreign quiet
+  flushed_halts = paged_halts me n i c d seats is place at up c.pages b b' p m e (all_of c) mine.1.cached work.store.pages narrows foreign quiet

@@ -17,7 +17,7 @@ use Rattle.record_locks.specs.Held.{Held}
 use Rattle.state_ids.specs.Blocks.{page_place}
 use Rattle.state_ids.specs.Held.{Shows}
 use Rattle.node_cache.specs.Cache.{CachedPage, CacheState, Changes, has_changes, is_cached}
-use Rattle.node_cache.proofs.Arriving.{none_is}
+use Rattle.store_nodes.proofs.HaltedNodes.{cached_there}
 use Rattle.node_cache.proofs.Ranges.{unchanged}
 use Rattle.node_cache.proofs.WriteAhead.{stable_below}
 use Rattle.node_cache.specs.Writes.{HoldsPages, IsWrittenAhead, KeepsForeignButPages, NarrowsButPages}
@@ -75,11 +75,7 @@ AreOf c pages = All (λ q. is_cached q.ticket.page c ≡ true) pages
 
 -- as all of them are
 pub all_of : (c : CacheState) → AreOf c c.pages
-all_of c k d low = by (is_cached (slice_index_or c.pages k d).ticket.page c) refl
-  where
-    by : (t : Bool) → is_cached (slice_index_or c.pages k d).ticket.page c ≡ t → is_cached (slice_index_or c.pages k d).ticket.page c ≡ true
-    by true is = is
-    by false not = absurd (none_is (slice_index_or c.pages k d).ticket.page c.pages not k d low refl)
+all_of c k d low = cached_there (slice_index_or c.pages k d).ticket.page c.pages k d low refl
 
 module _ (me : Store) (n i : ℕ) (c d : CacheState) (seats : SeatsState) (is : IsStore me) (place : IsPlace n) (at : i ≡ n - 1) (up : node_at me.nodes n ≡ Up c seats) (pages : List CachedPage) (b b' : ℕ → BlockState) (p : Plain) (m : Machine) (e : EnduresAs me b p m)
     (of_cache : AreOf c pages) (shown : All (λ q. Shows me.shared.pool q.frame (image_in me.shape p q.ticket.page)) pages) (within : All (λ q. q.ticket.page.0 < page_count me.shape) pages)
