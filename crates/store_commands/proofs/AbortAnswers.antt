@@ -108,7 +108,7 @@ module _ (c : Store) (b : ℕ → BlockState) (t : TxnId) where
       where
         by : (node : Node) → OnUp node (λ k seats. (recs : List LogRecord) (u : OpenTxn) → txn_in seats t.seat ≡ Some u → HasRecords k.log b recs → AreTold seats k.log.start recs → held_left c u.begin (6 * k.log.start) recs ≡ None)
             → OnUp node (λ k seats. (recs : List LogRecord) (u : OpenTxn) → txn_in seats t.seat ≡ Some u → HasRecords k.log b recs → AreTold seats k.log.start recs
-                → IfSome (held_left c u.begin (6 * k.log.start) recs) (λ why. ((reply ≡ why) × (d ≡ c) × (b' ≡ b)) ⊎ IsLogReply t.node.0 (region_of c.shape t.node.0) reply))
+            → IfSome (held_left c u.begin (6 * k.log.start) recs) (λ why. ((reply ≡ why) × (d ≡ c) × (b' ≡ b)) ⊎ IsLogReply t.node.0 (region_of c.shape t.node.0) reply))
         by Idle free = tt
         by (Up k seats) free = λ recs u txn has tells. subst (λ o. IfSome o (λ why. ((reply ≡ why) × (d ≡ c) × (b' ≡ b)) ⊎ IsLogReply t.node.0 (region_of c.shape t.node.0) reply)) (sym (free recs u txn has tells)) tt
         by Down free = tt
@@ -127,7 +127,7 @@ module _ (c : Store) (b : ℕ → BlockState) (t : TxnId) where
 
         by : (node : Node) → OnUp node (λ k seats. (recs : List LogRecord) (u : OpenTxn) → txn_in seats t.seat ≡ Some u → HasRecords k.log b recs → AreTold seats k.log.start recs → (r ≡ checked (held_left c u.begin (6 * k.log.start) recs)) ⊎ ReadsNot t.node.0 (region_of c.shape t.node.0) r)
             → OnUp node (λ k seats. (recs : List LogRecord) (u : OpenTxn) → txn_in seats t.seat ≡ Some u → HasRecords k.log b recs → AreTold seats k.log.start recs
-                → IfSome (held_left c u.begin (6 * k.log.start) recs) (λ first. ((why ≡ first) × (d ≡ c) × (b' ≡ b)) ⊎ IsLogReply t.node.0 (region_of c.shape t.node.0) why))
+            → IfSome (held_left c u.begin (6 * k.log.start) recs) (λ first. ((why ≡ first) × (d ≡ c) × (b' ≡ b)) ⊎ IsLogReply t.node.0 (region_of c.shape t.node.0) why))
         by Idle tests = tt
         by (Up k seats) tests = λ recs u txn has tells.
             let o = held_left c u.begin (6 * k.log.start) recs in
